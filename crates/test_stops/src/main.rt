@@ -1,5 +1,5 @@
-//! The program `test_stops`: stops an archive in a file (a crash or power loss) at each call of its
-//! disk, and opens what is left.
+//! The program `test_stops`: archives in files that stop (a crash or power loss) at each call of
+//! their disk, or of whose disk a call fails once, and files that no archive wrote.
 //!
 //! A file of data has steps, between which a line `--` stands: each is a script of one command.
 //! What an archive in memory answers after so many of them, when it is asked for all that it holds,
@@ -27,79 +27,46 @@
 //! 300 tunes that `data/many.script` makes of them. There each call of the upgrade is stopped by
 //! each choice, and of an opening each of the first 64 calls, those of a recovery among them, and
 //! then each 61st, since an opening reads a page of each tune; by which it is all lost or kept.
+//!
+//! Over the steps of `data/faults` each call of the disk fails once, and no other does: the command
+//! is answered so, every one behind it is refused without a call, and the file opens as before or
+//! after it. Each call of an opening fails once too, of all files that a stop at a call of the steps
+//! leaves: the disk comes back, and opens as it would. So it is over `data/upgrade` and the kept
+//! file.
+//!
+//! `data/forged` is a table: changes of a made file, as `OFFSET=BYTES`, and how it is answered:
+//! `NotArchive`, `Damaged`, or `layout 1` or `layout 2`, where it opens as an archive of that
+//! layout without a tune. `data/jig` has the one step of an archive that has each kind of page but
+//! set lists, and `data/kinds` steps to one that has all kinds, and a tune of three pages. Each
+//! page of both is changed so that it has not its form; and each cut of the made file, and of that
+//! of `data/jig`, inside its pages is opened. All have to be refused. The file of `data/kinds` is
+//! cut at many places: it is then no archive, a damaged one, or still holds the last state.
 #![tactic(auto)]
 
+mod courses;
+mod cuts;
+mod faults;
+mod files;
+mod forged;
+mod left_files;
 mod openings;
+mod page_numbers;
+mod scripts;
+mod single_faults;
 mod stops;
+mod sweeps;
 
-use openings::Way;
-use std::fs::Files;
+use faults::try_faults;
+use std::io;
 use std::process::ExitCode;
-use std::{fs, io};
-use stops::{stop_between, stop_making, stop_steps};
-use test_archives::{Course, file_after, kept_file};
-
-/// By this the kept file comes to hold nothing.
-const EMPTIES: &[u8] = b"set-drop friday\ndelete 1\ndelete 2\n";
+use sweeps::try_stops;
 
 fn main(rt: HostRuntime) -> io::Result<ExitCode> {
-    let commands = stop_commands(&rt)?;
-    let upgrades = stop_upgrades(&rt)?;
-    if commands && upgrades {
+    let stops = try_stops(&rt)?;
+    let faults = try_faults(&rt)?;
+    if stops && faults {
         Ok(ExitCode::SUCCESS)
     } else {
         Ok(ExitCode::FAILURE)
     }
-}
-
-// Stops archives that are made, and those that begin without a tune, and says whether all is well.
-fn stop_commands<R: Files + Print + AllocGlobal>(rt: &R) -> io::Result<bool> {
-    let file = file_after(rt.alloc(), &kept_file(rt, "kept")?, EMPTIES)?;
-    let mut script = fs::read(rt, "kept.script")?;
-    script.extend_from_slice(EMPTIES)?;
-    let course = Course::read(rt, "steps", &file, &script)?;
-    let making = stop_making(rt.alloc(), &course)?;
-    let making = say(rt, "make", making)?;
-    let steps = stop_course(rt, "steps", &course, &Way::ONCE)?;
-    let course = Course::read(rt, "leaves", &file, &script)?;
-    let leaves = stop_course(rt, "steps on leaves", &course, &Way::ONCE)?;
-    let course = Course::read(rt, "commands", &file, &script)?;
-    let commands = stop_course(rt, "commands", &course, &Way::TO_THE_END)?;
-    let filled = stop_course(rt, "commands, filled", &course, &Way::AGAIN)?;
-    Ok(making && steps && leaves && commands && filled)
-}
-
-// Stops archives of layout 1 in an upgrade, and says whether all is well.
-fn stop_upgrades<R: Files + Print + AllocGlobal>(rt: &R) -> io::Result<bool> {
-    let file = kept_file(rt, "kept")?;
-    let mut script = fs::read(rt, "kept.script")?;
-    let course = Course::read(rt, "upgrade", &file, &script)?;
-    let two = stop_course(rt, "upgrade of 2 tunes", &course, &Way::AGAIN)?;
-    let more = fs::read(rt, "many.script")?;
-    let file = file_after(rt.alloc(), &file, &more)?;
-    script.extend_from_slice(&more)?;
-    let course = Course::read(rt, "upgrade", &file, &script)?;
-    let many = stop_course(rt, "upgrade of 300 tunes", &course, &Way::APART)?;
-    Ok(two && many)
-}
-
-// Stops an archive at the steps of a course, and between them, and says whether all is well.
-fn stop_course<R: Print + AllocGlobal>(
-    rt: &R,
-    name: &str,
-    course: &Course,
-    way: &Way,
-) -> io::Result<bool> {
-    let steps = stop_steps(rt.alloc(), course, way)?;
-    let between = stop_between(rt.alloc(), course)?;
-    say(rt, name, steps.or(between))
-}
-
-// Prints what came of a sweep of stops: the call, or the step, at which it was not as it should be.
-fn say<R: Print>(rt: &R, name: &str, wrong: Option<u64>) -> io::Result<bool> {
-    match wrong {
-        None => println!(rt; "{name}: each stop leaves the state before a command or after it")?,
-        Some(at) => println!(rt; "{name}: what a stop at {at} leaves is not as it should be")?,
-    }
-    Ok(wrong.is_none())
 }

@@ -1,7 +1,8 @@
 // Openings of what stops leave, which are stopped in their turn.
+use crate::files::number_at;
+use crate::left_files::{LeftFile, LeftFiles};
 use std::alloc::Global;
 use std::io;
-use test_archives::{LeftFile, LeftFiles, number_at};
 use tune_archive::Archive;
 use tune_disk::{FuseDisk, MemoryDisk};
 use tune_journal::OpenFault;

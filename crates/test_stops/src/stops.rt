@@ -1,8 +1,9 @@
 // Archives that are stopped, and what they leave.
+use crate::courses::Course;
+use crate::left_files::LeftFiles;
 use crate::openings::{Way, add_ended, reopen_all};
 use std::alloc::Global;
 use std::io;
-use test_archives::{Course, LeftFiles};
 use tune_archive::Archive;
 use tune_disk::{FuseDisk, MemoryDisk};
 

@@ -1,8 +1,9 @@
 // Files of archives that are cut.
+use crate::files::{bad_line, number_at, part, write_bytes};
 use crate::page_numbers::page_offset;
+use crate::scripts::held;
 use std::alloc::Global;
 use std::io;
-use test_archives::{bad_line, held, number_at, part, write_bytes};
 use tune_archive::Archive;
 use tune_disk::MemoryDisk;
 use tune_journal::OpenFault;

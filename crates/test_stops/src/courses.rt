@@ -7,34 +7,34 @@ use tune_archive::{Archive, TuneStore};
 use tune_disk::{FuseDisk, MemoryDisk};
 use tune_store::ListArchive;
 
-const CLOSED: &[u8] = b"refused 23 Closed\n";
+pub(crate) const CLOSED: &[u8] = b"refused 23 Closed\n";
 
 /// Steps, the file from which on they are carried out, and what an archive in memory answers them.
 #[derive(Drop)]
-pub struct Course {
+pub(crate) struct Course {
     /// The file at the start.
-    pub start: Vec<u8>,
+    pub(crate) start: Vec<u8>,
     /// Scripts, most of one command.
-    pub steps: Vec<Vec<u8>>,
+    pub(crate) steps: Vec<Vec<u8>>,
     /// The replies to each.
-    pub replies: Vec<Vec<u8>>,
+    pub(crate) replies: Vec<Vec<u8>>,
     /// What is held after none of them, after one, and so on.
-    pub states: Vec<Vec<u8>>,
+    pub(crate) states: Vec<Vec<u8>>,
 }
 
 /// What a stop left, and how many of the steps were answered by then.
 #[derive(Drop)]
-pub struct Stopped {
-    pub disk: MemoryDisk,
-    pub answered: usize,
+pub(crate) struct Stopped {
+    pub(crate) disk: MemoryDisk,
+    pub(crate) answered: usize,
     /// After a fault a command was not refused as one over a closed archive.
-    pub is_open_after_fault: bool,
+    pub(crate) is_open_after_fault: bool,
 }
 
 impl Course {
     /// The steps of a file of data, between which a line `--` stands. The file at the start holds
     /// what a script makes of an empty archive of layout 1.
-    pub fn read<R: Files + AllocGlobal>(
+    pub(crate) fn read<R: Files + AllocGlobal>(
         rt: &R,
         name: &str,
         start: &[u8],
@@ -65,19 +65,19 @@ impl Course {
     }
 
     /// What is held at the start.
-    pub fn at_start(&self) -> &[Vec<u8>] {
+    pub(crate) fn at_start(&self) -> &[Vec<u8>] {
         &self.states[..self.states.len().min(1)]
     }
 
     /// What may be held after so many steps, or after one more.
-    pub fn in_progress(&self, step: usize) -> &[Vec<u8>] {
+    pub(crate) fn in_progress(&self, step: usize) -> &[Vec<u8>] {
         let from = step.min(self.states.len());
         let to = from.saturating_add(2).min(self.states.len());
         &self.states[from..to]
     }
 
     /// Carries the first steps out, on a disk that fails after so many calls.
-    pub fn carry_out(&self, alloc: Global, count: usize, calls: u64) -> io::Result<Stopped> {
+    pub(crate) fn carry_out(&self, alloc: Global, count: usize, calls: u64) -> io::Result<Stopped> {
         let disk = FuseDisk::new(MemoryDisk::from_bytes(alloc, &self.start)?, calls);
         let steps = &self.steps[..count.min(self.steps.len())];
         match Archive::open(alloc, disk) {

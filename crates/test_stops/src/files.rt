@@ -9,7 +9,7 @@ use tune_disk::{Disk, MemoryDisk};
 const MOST_BYTES: usize = 4_096;
 
 /// A file as it is made.
-pub fn made_file(alloc: Global) -> io::Result<Vec<u8>> {
+pub(crate) fn made_file(alloc: Global) -> io::Result<Vec<u8>> {
     match Archive::make(alloc, MemoryDisk::new(alloc)) {
         Ok(made) => {
             let disk = made.into_disk();
@@ -20,7 +20,7 @@ pub fn made_file(alloc: Global) -> io::Result<Vec<u8>> {
 }
 
 /// The file of which a file of data has the bytes that are not all 0, as changes, one a line.
-pub fn kept_file<R: Files + AllocGlobal>(rt: &R, name: &str) -> io::Result<Vec<u8>> {
+pub(crate) fn kept_file<R: Files + AllocGlobal>(rt: &R, name: &str) -> io::Result<Vec<u8>> {
     let text = fs::read_to_string(rt, name)?;
     let mut disk = MemoryDisk::new(rt.alloc());
     for line in text.lines() {
@@ -30,7 +30,7 @@ pub fn kept_file<R: Files + AllocGlobal>(rt: &R, name: &str) -> io::Result<Vec<u
 }
 
 /// Writes what a change says, `OFFSET=BYTES`, of which the bytes are in hexadecimal.
-pub fn change_file(alloc: Global, disk: &mut MemoryDisk, change: &str) -> io::Result<()> {
+pub(crate) fn change_file(alloc: Global, disk: &mut MemoryDisk, change: &str) -> io::Result<()> {
     let (at, digits) = change.split_once('=').ok_or(bad_line())?;
     let at = at.parse::<u32>().map_err(|_| bad_line())?;
     write_bytes(disk, at, &bytes_of(alloc, digits)?)
@@ -51,7 +51,7 @@ fn bytes_of(alloc: Global, digits: &str) -> io::Result<Vec<u8>> {
 }
 
 /// Writes at an offset of a file.
-pub fn write_bytes(disk: &mut MemoryDisk, at: u32, bytes: &[u8]) -> io::Result<()> {
+pub(crate) fn write_bytes(disk: &mut MemoryDisk, at: u32, bytes: &[u8]) -> io::Result<()> {
     if bytes.len() > MOST_BYTES {
         return Err(bad_line());
     }
@@ -60,19 +60,19 @@ pub fn write_bytes(disk: &mut MemoryDisk, at: u32, bytes: &[u8]) -> io::Result<(
 }
 
 /// A line of data that has not its form.
-pub fn bad_line() -> io::Error {
+pub(crate) fn bad_line() -> io::Error {
     io::ErrorKind::InvalidData.into()
 }
 
 /// So many bytes from an offset on, or fewer where the file ends.
-pub fn part(file: &[u8], at: usize, count: usize) -> &[u8] {
+pub(crate) fn part(file: &[u8], at: usize, count: usize) -> &[u8] {
     let from = at.min(file.len());
     let to = at.saturating_add(count).min(file.len());
     &file[from..to]
 }
 
 /// The number of so many bytes at an offset, the highest byte first; bytes past the end are none.
-pub fn number_at(file: &[u8], at: usize, count: usize) -> usize {
+pub(crate) fn number_at(file: &[u8], at: usize, count: usize) -> usize {
     let mut number: usize = 0;
     for byte in part(file, at, count) {
         number = number.saturating_mul(256).saturating_add(*byte as usize);

@@ -1,7 +1,9 @@
 // Archives of whose disk one call fails, and works again.
+use crate::courses::{CLOSED, Course};
+use crate::left_files::LeftFiles;
+use crate::scripts::{held, replies_of};
 use std::alloc::Global;
 use std::io;
-use test_archives::{Course, LeftFiles, held, replies_of};
 use tune_archive::{Archive, TuneStore};
 use tune_disk::{Disk, FuseDisk, MemoryDisk, OneFault};
 use tune_journal::OpenFault;
@@ -17,8 +19,6 @@ const MOST_FILES: usize = 100_000;
 const FEWEST_CALLS: u64 = 30;
 
 const DEVICE: &[u8] = b"refused 22 Device\n";
-
-const CLOSED: &[u8] = b"refused 23 Closed\n";
 
 const BAD_LINE: &[u8] = b"refused 30 BadLine\n";
 

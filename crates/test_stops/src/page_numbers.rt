@@ -1,7 +1,7 @@
 // The pages of an archive, as the form of the file has them.
+use crate::files::{number_at, part};
 use std::alloc::Global;
 use std::io;
-use test_archives::{number_at, part};
 
 /// How many pages a chain has at most, of those that are followed.
 const MOST_PAGES: usize = 1_000;

@@ -10,15 +10,15 @@ const PART: usize = 4_096;
 
 /// A file that a stop left.
 #[derive(Drop)]
-pub struct LeftFile {
-    pub bytes: Vec<u8>,
+pub(crate) struct LeftFile {
+    pub(crate) bytes: Vec<u8>,
     /// How many openings were stopped, one after another, before it was left.
-    pub openings: usize,
+    pub(crate) openings: usize,
 }
 
 /// A list of files that stops left, in which none stands twice.
 #[derive(Drop)]
-pub struct LeftFiles {
+pub(crate) struct LeftFiles {
     alloc: Global,
     // At each place of a file the parts that stand there in any of them, each once.
     parts: Vec<Vec<Vec<u8>>>,
@@ -36,7 +36,7 @@ struct Numbered {
 
 impl LeftFiles {
     /// Without a file.
-    pub fn new(alloc: Global) -> LeftFiles {
+    pub(crate) fn new(alloc: Global) -> LeftFiles {
         LeftFiles {
             alloc,
             parts: Vec::new(alloc),
@@ -46,14 +46,19 @@ impl LeftFiles {
     }
 
     /// Whether there are more files than one.
-    pub fn has_several(&self) -> bool {
+    pub(crate) fn has_several(&self) -> bool {
         self.files.len() > 1
     }
 
     /// Puts at the end of the list what a stop leaves, where it is not there yet: all that was
     /// written since the last sync is lost, or kept, and where a stop fills, each byte of it is A7,
     /// or 0.
-    pub fn add_left(&mut self, disk: &MemoryDisk, fills: bool, openings: usize) -> io::Result<()> {
+    pub(crate) fn add_left(
+        &mut self,
+        disk: &MemoryDisk,
+        fills: bool,
+        openings: usize,
+    ) -> io::Result<()> {
         self.add_stopped(disk, StopChoice::Lost, openings)?;
         self.add_stopped(disk, StopChoice::Kept, openings)?;
         if fills {
@@ -102,7 +107,7 @@ impl LeftFiles {
     }
 
     /// Whether each file holds one of these states, or none, where that may be.
-    pub fn all_hold(
+    pub(crate) fn all_hold(
         &self,
         alloc: Global,
         states: &[Vec<u8>],
@@ -119,7 +124,7 @@ impl LeftFiles {
     }
 
     /// The file of this number, if there are more files than that.
-    pub fn file(&self, number: usize) -> io::Result<Option<LeftFile>> {
+    pub(crate) fn file(&self, number: usize) -> io::Result<Option<LeftFile>> {
         let Some(file) = self.files.get(number) else {
             return Ok(None);
         };
@@ -139,7 +144,12 @@ impl LeftFiles {
 impl LeftFile {
     /// Whether an archive is opened in it that holds one of these states, or none is, where that
     /// may be.
-    pub fn holds(&self, alloc: Global, states: &[Vec<u8>], may_be_none: bool) -> io::Result<bool> {
+    pub(crate) fn holds(
+        &self,
+        alloc: Global,
+        states: &[Vec<u8>],
+        may_be_none: bool,
+    ) -> io::Result<bool> {
         match held(alloc, MemoryDisk::from_bytes(alloc, &self.bytes)?)? {
             Some(state) => Ok(is_among(&state, states)),
             None => Ok(may_be_none),
@@ -148,6 +158,6 @@ impl LeftFile {
 }
 
 /// Whether a state is one of these.
-pub fn is_among(state: &[u8], states: &[Vec<u8>]) -> bool {
+pub(crate) fn is_among(state: &[u8], states: &[Vec<u8>]) -> bool {
     states.iter().any(|one| one.as_slice() == state)
 }

@@ -1,10 +1,11 @@
 // Files that no archive wrote: changed at one place, or cut.
 use crate::cuts::{is_cut_refused, is_cut_whole};
+use crate::files::{bad_line, change_file, part, write_bytes};
 use crate::page_numbers::{PageNumbers, page_offset};
+use crate::scripts::{file_after, held};
 use std::alloc::Global;
 use std::fs::Files;
 use std::{fs, io};
-use test_archives::{bad_line, change_file, file_after, held, part, write_bytes};
 use tune_archive::{Archive, Counts};
 use tune_disk::MemoryDisk;
 use tune_journal::OpenFault;

@@ -12,7 +12,7 @@ export-set friday\nshow 1\nshow 2\nshow 3\nshow 4\nshow 5\nshow 6\nshow 40\nshow
 find notes CDEFGABcd\n";
 
 /// Runs a script over a store, and gives its replies.
-pub fn replies_of<S: TuneStore>(
+pub(crate) fn replies_of<S: TuneStore>(
     alloc: Global,
     script: &[u8],
     store: &mut S,
@@ -28,7 +28,7 @@ pub(crate) fn state_of<S: TuneStore>(alloc: Global, store: &mut S) -> io::Result
 }
 
 /// What the archive of a disk answers that is asked for all that it holds, if it is opened.
-pub fn held(alloc: Global, disk: MemoryDisk) -> io::Result<Option<Vec<u8>>> {
+pub(crate) fn held(alloc: Global, disk: MemoryDisk) -> io::Result<Option<Vec<u8>>> {
     match Archive::open(alloc, disk) {
         Ok(mut archive) => Ok(Some(state_of(alloc, &mut archive)?)),
         Err(_) => Ok(None),
@@ -36,7 +36,7 @@ pub fn held(alloc: Global, disk: MemoryDisk) -> io::Result<Option<Vec<u8>>> {
 }
 
 /// The file of an archive that began as this one, and carried out a script.
-pub fn file_after(alloc: Global, start: &[u8], script: &[u8]) -> io::Result<Vec<u8>> {
+pub(crate) fn file_after(alloc: Global, start: &[u8], script: &[u8]) -> io::Result<Vec<u8>> {
     let Ok(mut archive) = Archive::open(alloc, MemoryDisk::from_bytes(alloc, start)?) else {
         return Err(io::ErrorKind::InvalidData.into());
     };
