@@ -1,118 +1,170 @@
-// Empty archives, over which scripts run.
-use std::alloc::Global;
-use std::fs::Files;
+// Archives on disks that count their calls. One function holds an archive, and what it gives is
+// plain: bytes, how a run ended, and numbers of calls.
+use crate::disks::{Calls, CountingDisk};
+use std::alloc::{AllocError, Global};
 use std::io;
-use test_cases::{Answer, Bench, Words, read_bytes};
-use tune_archive::Archive;
-use tune_disk::{Disk, MemoryDisk};
-use tune_scripts::{StreamConsole, run};
-use tune_store::{ListArchive, TuneStore};
+use test_cases::no_data;
+use tune_archive::{Archive, TuneStore};
+use tune_disk::MemoryDisk;
+use tune_journal::Refused;
+use tune_scripts::{RunEnd, StreamConsole, run};
+use tune_store::ListArchive;
 
-/// What has a byte other than 0 in a file of layout 1 without a tune, and its last byte: the magic,
-/// one page, and the version in that page.
-const OLD_FILE: [(u64, &[u8]); 4] = [
-    (0, b"ABCTUNE1"),
-    (12_291, &[1]),
-    (16_387, &[1]),
-    (20_479, &[0]),
-];
+/// As many calls of a disk as there can be.
+pub(crate) const ALL_CALLS: u64 = u64::MAX;
 
-/// Where an archive keeps its tunes.
-#[derive(Clone, Copy, Debug, PartialEq, Eq)]
-pub(crate) enum Kept {
-    InMemory,
-    /// In a file of layout 1, which is a disk in memory.
-    InOldFile,
-    /// In a file that is made.
-    InMadeFile,
+/// The reply to a script by which the tunes come in.
+const TAKEN: &[u8] = b"ok import 1 2000\n";
+
+/// An archive that was opened or made, or not.
+type Opened = Result<Archive<CountingDisk>, Refused<CountingDisk>>;
+
+/// How a run ended, and the calls of the disk by then.
+#[derive(Clone, Copy)]
+pub(crate) struct Ran {
+    pub(crate) end: RunEnd,
+    pub(crate) calls: Calls,
 }
 
-impl Kept {
-    /// What is printed of it, and the list of the scripts that run over such archives alone.
-    pub(crate) fn names(self) -> (&'static str, &'static str) {
-        match self {
-            Kept::InMemory => ("in memory", "cases-of-layout-1"),
-            Kept::InOldFile => ("in a file of layout 1", "cases-of-layout-1"),
-            Kept::InMadeFile => ("in a made file", "cases-of-layout-2"),
-        }
-    }
-}
-
-/// A call is the name of a script, which runs over an empty archive.
-#[derive(Drop)]
-pub(crate) struct Empty<'a, R> {
-    pub(crate) rt: &'a R,
-    pub(crate) kept: Kept,
-}
-
-impl<'a, R: Files + AllocGlobal> Bench for Empty<'a, R> {
-    fn begin(&mut self, _given: &str) -> io::Result<()> {
-        Ok(())
-    }
-
-    fn call(&mut self, name: &str, _words: Words<'_>, answer: &mut Answer) -> io::Result<()> {
-        let script = read_bytes(self.rt, name, "script")?;
-        let wanted = read_bytes(self.rt, name, "replies")?;
-        run_on_empty(self.rt.alloc(), self.kept, &script, &wanted, answer)
-    }
-}
-
-fn run_on_empty(
+// Opens the archive of a file on a disk of which so many calls pass, runs a script over it, and
+// puts the replies behind others; nothing where the archive is not opened.
+pub(crate) fn run_over_file(
     alloc: Global,
-    kept: Kept,
+    file: &[u8],
+    most: u64,
     script: &[u8],
-    wanted: &[u8],
-    answer: &mut Answer,
-) -> io::Result<()> {
-    match kept {
-        Kept::InMemory => {
-            show_run(alloc, &mut ListArchive::new(alloc), script, wanted, answer);
-        }
-        Kept::InOldFile => match Archive::open(alloc, old_disk(alloc)?) {
-            Ok(archive) => run_on_file(alloc, archive, script, wanted, answer),
-            Err(_) => answer.say("no archive is opened"),
-        },
-        Kept::InMadeFile => match Archive::make(alloc, MemoryDisk::new(alloc)) {
-            Ok(archive) => run_on_file(alloc, archive, script, wanted, answer),
-            Err(_) => answer.say("no archive is made"),
-        },
-    }
-    Ok(())
+    replies: &mut Vec<u8>,
+) -> Result<Option<Ran>, AllocError> {
+    let disk = CountingDisk::over(MemoryDisk::from_bytes(alloc, file)?, most);
+    Ok(run_over_opened(alloc, Archive::open(alloc, disk), script, replies))
 }
 
-fn run_on_file(
+// The same over the archive of a disk.
+pub(crate) fn run_over_disk(
     alloc: Global,
-    mut archive: Archive<MemoryDisk>,
+    disk: MemoryDisk,
     script: &[u8],
-    wanted: &[u8],
-    answer: &mut Answer,
-) {
-    show_run(alloc, &mut archive, script, wanted, answer);
-    let _ = archive.into_disk();
+    replies: &mut Vec<u8>,
+) -> Option<Ran> {
+    let disk = CountingDisk::over(disk, ALL_CALLS);
+    run_over_opened(alloc, Archive::open(alloc, disk), script, replies)
 }
 
-// A disk with a file of layout 1 without a tune.
-fn old_disk(alloc: Global) -> io::Result<MemoryDisk> {
-    let mut disk = MemoryDisk::new(alloc);
-    for (at, bytes) in OLD_FILE {
-        if disk.write_at(at, bytes).is_err() {
-            return Err(io::ErrorKind::OutOfMemory.into());
-        }
+// The same over an archive that is made.
+pub(crate) fn run_over_made(alloc: Global, script: &[u8], replies: &mut Vec<u8>) -> Option<Ran> {
+    let disk = CountingDisk::over(MemoryDisk::new(alloc), ALL_CALLS);
+    run_over_opened(alloc, Archive::make(alloc, disk), script, replies)
+}
+
+fn run_over_opened(
+    alloc: Global,
+    opened: Opened,
+    script: &[u8],
+    replies: &mut Vec<u8>,
+) -> Option<Ran> {
+    match opened {
+        Ok(archive) => Some(run_over_archive(alloc, archive, script, replies)),
+        Err(_refused) => None,
     }
-    Ok(disk)
 }
 
-// How the run of a script ends, and from which byte on its replies are others than those that are
-// wanted.
-fn show_run<S: TuneStore>(
+fn run_over_archive(
+    alloc: Global,
+    mut archive: Archive<CountingDisk>,
+    script: &[u8],
+    replies: &mut Vec<u8>,
+) -> Ran {
+    let end = run_over(alloc, &mut archive, script, replies);
+    let disk = archive.into_disk();
+    Ran {
+        end,
+        calls: disk.calls(),
+    }
+}
+
+// The same over an archive in memory.
+pub(crate) fn run_over_list(alloc: Global, script: &[u8], replies: &mut Vec<u8>) -> RunEnd {
+    let mut archive = ListArchive::new(alloc);
+    run_over(alloc, &mut archive, script, replies)
+}
+
+// Runs a script over an archive in memory into which tunes come by another, puts the replies to it
+// behind others, and says whether the tunes came in.
+pub(crate) fn run_in_memory(
+    alloc: Global,
+    import: &[u8],
+    script: &[u8],
+    replies: &mut Vec<u8>,
+) -> bool {
+    let mut archive = ListArchive::new(alloc);
+    let is_taken = takes(alloc, &mut archive, import);
+    let _ = run_over(alloc, &mut archive, script, replies);
+    is_taken
+}
+
+// Runs a script over a store, and puts the replies behind others.
+fn run_over<S: TuneStore>(
     alloc: Global,
     store: &mut S,
     script: &[u8],
-    wanted: &[u8],
-    answer: &mut Answer,
-) {
+    replies: &mut Vec<u8>,
+) -> RunEnd {
+    run(alloc, &mut StreamConsole::new(script, replies), store)
+}
+
+// Whether the tunes come into a store by this script.
+fn takes<S: TuneStore>(alloc: Global, store: &mut S, import: &[u8]) -> bool {
     let mut replies = Vec::new(alloc);
-    let end = run(alloc, &mut StreamConsole::new(script, &mut replies), store);
-    answer.name(end);
-    answer.tell_difference(&replies, wanted);
+    let _ = run_over(alloc, store, import, &mut replies);
+    replies.as_slice() == TAKEN
+}
+
+// The file of a made archive into which tunes come by a script.
+pub(crate) fn made_file(alloc: Global, import: &[u8]) -> io::Result<Vec<u8>> {
+    let disk = CountingDisk::over(MemoryDisk::new(alloc), ALL_CALLS);
+    file_with(alloc, Archive::make(alloc, disk), import)
+}
+
+// The file of the archive of a disk into which tunes come by a script.
+pub(crate) fn file_of_disk(alloc: Global, disk: MemoryDisk, import: &[u8]) -> io::Result<Vec<u8>> {
+    let disk = CountingDisk::over(disk, ALL_CALLS);
+    file_with(alloc, Archive::open(alloc, disk), import)
+}
+
+fn file_with(alloc: Global, opened: Opened, import: &[u8]) -> io::Result<Vec<u8>> {
+    match opened {
+        Ok(archive) => file_of_archive(alloc, archive, import),
+        Err(_refused) => Err(no_data()),
+    }
+}
+
+fn file_of_archive(
+    alloc: Global,
+    mut archive: Archive<CountingDisk>,
+    import: &[u8],
+) -> io::Result<Vec<u8>> {
+    let is_taken = takes(alloc, &mut archive, import);
+    let bytes = bytes_of(alloc, archive.into_disk())?;
+    if is_taken { Ok(bytes) } else { Err(no_data()) }
+}
+
+// The bytes of a disk.
+fn bytes_of(alloc: Global, disk: CountingDisk) -> Result<Vec<u8>, AllocError> {
+    let disk = disk.into_memory();
+    disk.bytes().to_vec(alloc)
+}
+
+/// The calls of the disk that opening the archive of a file and running a script make. The replies
+/// have to be these.
+pub(crate) fn calls_of(
+    alloc: Global,
+    file: &[u8],
+    script: &[u8],
+    wanted: &[u8],
+) -> io::Result<Calls> {
+    let mut replies = Vec::new(alloc);
+    match run_over_file(alloc, file, ALL_CALLS, script, &mut replies)? {
+        Some(ran) if replies.as_slice() == wanted => Ok(ran.calls),
+        _ => Err(no_data()),
+    }
 }

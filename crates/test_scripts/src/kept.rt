@@ -50,8 +50,8 @@ fn finds_within(alloc: Global, file: &[u8]) -> io::Result<bool> {
 // Whether the archive of a file is opened on a disk of which so many calls pass.
 fn is_opened_within(alloc: Global, file: &[u8], most: u64) -> io::Result<bool> {
     let mut replies = Vec::new(alloc);
-    let calls = run_over_file(alloc, file, most, b"", &mut replies)?;
-    Ok(calls.is_some())
+    let ran = run_over_file(alloc, file, most, b"", &mut replies)?;
+    Ok(ran.is_some())
 }
 
 // Whether the archive of a file, on a disk of which so many calls pass, answers a script so.

@@ -1,21 +1,12 @@
 // The archive of the tunes.
 use crate::archives::{file_of_disk, made_file};
+use crate::old_disks::old_disk;
 use std::alloc::{AllocError, Global};
 use std::fmt::Write;
 use std::io;
-use tune_disk::{Disk, MemoryDisk};
 
 /// How many tunes there are.
 const TUNES: u32 = 2_000;
-
-/// What has a byte other than 0 in a file of layout 1 without a tune, and its last byte: the magic,
-/// one page, and the version in that page.
-const OLD_FILE: [(u64, &[u8]); 4] = [
-    (0, b"ABCTUNE1"),
-    (12_291, &[1]),
-    (16_387, &[1]),
-    (20_479, &[0]),
-];
 
 /// The notes that a digit of a number is.
 const NOTES: [&str; 10] = ["C", "D", "E", "F", "G", "A", "B", "c", "d", "e"];
@@ -30,17 +21,6 @@ pub(crate) fn file_of_tunes(alloc: Global) -> io::Result<Vec<u8>> {
 pub(crate) fn old_file_of_tunes(alloc: Global) -> io::Result<Vec<u8>> {
     let import = import_of_tunes(alloc)?;
     file_of_disk(alloc, old_disk(alloc)?, import.as_bytes())
-}
-
-// A disk with a file of layout 1 without a tune.
-fn old_disk(alloc: Global) -> io::Result<MemoryDisk> {
-    let mut disk = MemoryDisk::new(alloc);
-    for (at, bytes) in OLD_FILE {
-        if disk.write_at(at, bytes).is_err() {
-            return Err(io::ErrorKind::OutOfMemory.into());
-        }
-    }
-    Ok(disk)
 }
 
 // The file of an archive of as many tunes that have a title and a key alone.
