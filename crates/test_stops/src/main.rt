@@ -30,9 +30,9 @@
 //!
 //! Over the steps of `data/faults` each call of the disk fails once, and no other does: the command
 //! is answered so, every one behind it is refused without a call, and the file opens as before or
-//! after it. Each call of an opening fails once too, of all files that a stop at a call of the steps
-//! leaves: the disk comes back, and opens as it would. So it is over `data/upgrade` and the kept
-//! file.
+//! after it. Each call of an opening fails once too, of all files that a stop at a call of the
+//! steps leaves: the disk comes back, and opens as it would. So it is over `data/upgrade` and the
+//! kept file.
 //!
 //! `data/forged` is a table: changes of a made file, as `OFFSET=BYTES`, and how it is answered:
 //! `NotArchive`, `Damaged`, or `layout 1` or `layout 2`, where it opens as an archive of that
