@@ -66,14 +66,15 @@ def pairs_of(path):
 
 
 def without_generics(text):
-    """A text without what stands in it between `<` and `>`."""
+    """A text without what stands in it between `<` and `>`, but for numbers."""
     while re.search(r'<[^<>]*>', text):
-        text = re.sub(r'<[^<>]*>', '', text)
+        text = re.sub(r'<[^<>]*>', lambda found: ''.join(re.findall(r'\b\d+', found[0])), text)
     return text
 
 
 def type_of(heading):
-    """The prover's name of what an `impl` or a `trait` is for: TYPE, or TYPETRAIT."""
+    """The prover's name of what an `impl` or a `trait` is for: TYPE, or TYPETRAIT, where TRAIT has
+    its numbers behind it."""
     named = re.split(r' where\b|\{|:(?!:)', without_generics(heading))[0]
     return ''.join(re.findall(r'\w+', part)[-1] for part in reversed(named.split(' for ')))
 
