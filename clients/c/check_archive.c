@@ -1465,13 +1465,32 @@ static int run_list(const char *list, const char *empty_archive)
     return count;
 }
 
+/* Whether a list has a line for the script of this file. */
+static int is_listed(const char *list, const char *script)
+{
+    char path[4096], line[512];
+    int found = 0;
+    snprintf(path, sizeof path, "%s/%s", getenv("CASES"), list);
+    FILE *file = fopen(path, "r");
+    while (file != NULL && fgets(line, sizeof line, file) != NULL) {
+        size_t length = strcspn(line, ":\n");
+        found |= length + 7 == strlen(script) && strncmp(line, script, length) == 0;
+    }
+    if (file != NULL)
+        fclose(file);
+    return found;
+}
+
+/* How many scripts there are but for those over an archive of 2,000 tunes. */
 static int script_files(void)
 {
     int count = 0;
     DIR *folder = opendir(getenv("CASES"));
     for (struct dirent *entry; folder != NULL && (entry = readdir(folder)) != NULL;) {
         size_t length = strlen(entry->d_name);
-        count += length > 7 && strcmp(entry->d_name + length - 7, ".script") == 0;
+        count += length > 7 && strcmp(entry->d_name + length - 7, ".script") == 0
+            && !is_listed("counted", entry->d_name)
+            && !is_listed("counted-of-layout-1", entry->d_name);
     }
     if (folder != NULL)
         closedir(folder);
