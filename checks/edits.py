@@ -177,9 +177,11 @@ class Tries:
                 elif self.kept.tried(self.kept_name(crate, edit)):
                     self.note(edit, '', True)
             left = [edit for edit in edits if (name, edit.name) not in self.found]
+            # Those of the crates with most below them begin: they take longest.
+            work = sum(each.count(rb'\n') for each in [crate, *crate.below()])
             for number, group in enumerate(groups_of(crate.folder, left)):
                 tasks[name, 'edits', number] = (
-                    [], crate.count(rb'\n'), self.rt.OVER * self.rt.need(crate),
+                    [], work, self.rt.OVER * self.rt.need(crate),
                     lambda given, jobs, crate=crate, group=group: self.try_group(crate, group))
         self.rt.in_lanes(tasks)
 
