@@ -1,6 +1,7 @@
 // An opening of an archive in a file, as docs/FILE-FORMAT.md says that it has to be: a measure for
 // what one must cost. It asks for all that the page asks for, takes the keys of a tune as
-// docs/ABC-PROFILE.md says, and makes the calls of the system that the program makes.
+// docs/ABC-PROFILE.md says, and makes the calls of the system that the program makes: pages that
+// stand side by side are read by one.
 //     FILE           prints `layout 2 tunes N sets M`, and `damaged` or `no archive` with status 1
 //     --times FILE   the same, and then the microseconds of the opening by the clock and those of
 //                    the processor
@@ -27,8 +28,10 @@
 typedef unsigned char Byte;
 
 enum { GATE = 4096, DESCRIPTOR = 8192, COUNT = 12288, FIRST_PAGE = 16384, OPEN = 0xA7 };
-enum { PAGE = 4096, LINK_HEAD = 6, LINK_BYTES = 4090, LEAF_HEAD = 2, LEAF_BYTES = 4094 };
+enum { PAGE = 4096, ROOT = 28, LINK_HEAD = 6, LINK_BYTES = 4090, LEAF_HEAD = 2, LEAF_BYTES = 4094 };
 enum { NUMBER = 4, KEY = 32, LONGEST_KEY = 48, REVISION = 2, LINE = 64 };
+// The most pages that are read by one call.
+enum { RUN = 32 };
 enum { MOST_PAGES = 4000000, MOST_TUNES = 50000, MOST_TITLES = 8, MOST_NOTES = 12 };
 enum { MOST_NUMBER = 999999, MOST_REVISION = 9999, LONGEST_TEXT = 64000 };
 enum { MOST_SETS = 500, MOST_PLACES = 200, LONGEST_NAME = 40, SETS_PAGES = 104, LIST_PAGES = 392 };
@@ -95,13 +98,20 @@ static const Layout *layout;
 static int file;
 static uint32_t pages;
 static Byte claimed[MOST_PAGES];
-// Which pages were read, where their reads are to be made once more.
-static uint32_t *pages_read, pages_read_count;
+// Pages that stand side by side, as they were read by one call: the first, and how many.
+typedef struct {
+    uint32_t first, count;
+} Run;
 
-// The bytes of the chain that was read last. The head of its first page stands before it.
-static _Alignas(PAGE) Byte chain_room[LINK_HEAD + LIST_PAGES * LINK_BYTES + PAGE];
-static Byte *const chain = chain_room + LINK_HEAD;
-static _Alignas(PAGE) Byte leaf[PAGE];
+static Run run;
+static _Alignas(PAGE) Byte run_bytes[RUN * PAGE];
+// Which runs were read, where their reads are to be made once more.
+static Run *runs_read;
+static uint32_t runs_read_count;
+
+// The bytes of the chain that was read last, and the leaf, which stands in the run.
+static _Alignas(PAGE) Byte chain[LIST_PAGES * LINK_BYTES + PAGE];
+static const Byte *leaf;
 
 // For each number the place of its tune plus one, and for each place the first page.
 static uint16_t place_of[MOST_NUMBER + 1];
@@ -249,26 +259,35 @@ static void read_front(void) {
 
 // PAGES, CHAINS AND INDEXES
 
-static void claim_page(uint32_t page, Byte *image) {
-    want(page < pages && !claimed[page]);
-    claimed[page] = 1;
-    if (pages_read != NULL) pages_read[pages_read_count++] = page;
-    read_bytes(image, PAGE, place_of_page(page));
+// Reads a page with those behind it: twice as many as the run before had, where that is near, up to
+// 32, and else the page alone.
+static void read_run(uint32_t page) {
+    bool is_near = page >= run.first && (page - run.first) / 2 <= run.count;
+    uint32_t most = pages - page < RUN ? pages - page : RUN;
+    uint32_t count = is_near && run.count > 0 ? 2 * run.count : 1;
+    run = (Run){page, count < most ? count : most};
+    if (runs_read != NULL) runs_read[runs_read_count++] = run;
+    read_bytes(run_bytes, PAGE * run.count, place_of_page(page));
 }
 
-// Reads the chain that begins at a page, and gives how many bytes it has. The head of a page comes
-// over the last bytes of the one before, which are put back: so nothing is copied.
+// Gives the bytes of the page, which stand in the run until the next one is read.
+static const Byte *claim_page(uint32_t page) {
+    want(page < pages && !claimed[page]);
+    claimed[page] = 1;
+    if (page < run.first || page - run.first >= run.count) read_run(page);
+    return run_bytes + PAGE * (page - run.first);
+}
+
+// Reads the chain that begins at a page, and gives how many bytes it has.
 static size_t read_chain(uint32_t page, size_t most_pages) {
     size_t size = 0;
     while (page != 0) {
-        Byte before[LINK_HEAD], *image = chain + size - LINK_HEAD;
         want(most_pages-- > 0);
-        memcpy(before, image, LINK_HEAD);
-        claim_page(page, image);
+        const Byte *image = claim_page(page);
         page = four_bytes(image);
         uint32_t used = two_bytes(image + 4);
-        memcpy(image, before, LINK_HEAD);
         want(1 <= used && used <= LINK_BYTES && (page == 0 || used == LINK_BYTES));
+        memcpy(chain + size, image + LINK_HEAD, used);
         size += used;
     }
     return size;
@@ -304,7 +323,7 @@ static bool rises(const Byte *first, const Byte *second, size_t width) {
 // Reads the next leaf, whose entries have to rise from those before; false where there is none.
 static bool read_leaf(Leaves *leaves) {
     if (leaves->next == leaves->listed) return false;
-    claim_page(four_bytes(chain + leaves->next), leaf);
+    leaf = claim_page(four_bytes(chain + leaves->next));
     leaves->next += NUMBER;
     leaves->count = two_bytes(leaf);
     want(1 <= leaves->count && leaves->count <= leaves->capacity);
@@ -884,10 +903,10 @@ static void read_tune(size_t place) {
 // THE WHOLE
 
 static void open_archive(const char *path) {
-    Byte root[PAGE];
+    Byte root[ROOT];
     open_file(path);
     read_front();
-    claim_page(0, root);
+    memcpy(root, claim_page(0), ROOT);
     uint32_t version = four_bytes(root);
     want(version == 1 || version == 2);
     layout = &layouts[version - 1];
@@ -902,17 +921,17 @@ static void open_archive(const char *path) {
     close(file);
 }
 
-// Makes the calls of an opening that read these pages.
+// Makes the calls of an opening that read these runs.
 static void make_calls(const char *path) {
-    static Byte bytes[PAGE];
+    Byte bytes[8];
     open_file(path);
     sync_file();
     length_of_file();
     read_bytes(bytes, 8, 0);
     read_bytes(bytes, 1, GATE);
     read_bytes(bytes, NUMBER, COUNT);
-    for (uint32_t i = 0; i < pages_read_count; i++)
-        read_bytes(bytes, PAGE, place_of_page(pages_read[i]));
+    for (uint32_t i = 0; i < runs_read_count; i++)
+        read_bytes(run_bytes, PAGE * runs_read[i].count, place_of_page(runs_read[i].first));
     close(file);
 }
 
@@ -951,7 +970,7 @@ int main(int count, char **words) {
     scales.last = last_of[2];
     incipits.last = last_of[3];
     if (reads) {
-        pages_read = taken(MOST_PAGES * sizeof *pages_read);
+        runs_read = taken(MOST_PAGES * sizeof *runs_read);
         open_archive(words[2]);
     }
     double start = microseconds(CLOCK_MONOTONIC), work = microseconds(CLOCK_PROCESS_CPUTIME_ID);

@@ -73,6 +73,45 @@ pub(crate) fn show_page(journal: &mut Journal<FaultyDisk>, page: u32, answer: &m
     }
 }
 
+/// Shows the pages of a journal, each read with those behind it.
+pub(crate) fn show_runs(alloc: Global, journal: &mut Journal<FaultyDisk>, answer: &mut Answer) {
+    for page in 0..journal.count() {
+        if page > 0 {
+            answer.say(" ");
+        }
+        show_run(alloc, journal, page, answer);
+    }
+}
+
+/// Shows a page of a journal, read with those behind it.
+pub(crate) fn show_run(
+    alloc: Global,
+    journal: &mut Journal<FaultyDisk>,
+    page: u32,
+    answer: &mut Answer,
+) {
+    let mut into = image(0);
+    if page >= journal.count() {
+        answer.say("no page");
+    } else if journal.read_in_runs(alloc, page, &mut into).is_ok() {
+        show_image(&into, answer);
+    } else {
+        answer.say("fault");
+    }
+}
+
+/// Shows a page that was read with another one.
+pub(crate) fn show_ahead(journal: &Journal<FaultyDisk>, page: u32, answer: &mut Answer) {
+    match journal.ahead(page) {
+        Some(held) => {
+            let mut into = image(0);
+            into.bytes.copy_from_slice(held);
+            show_image(&into, answer);
+        }
+        None => answer.say("none"),
+    }
+}
+
 /// Shows the pages that a stop leaves, or why what it leaves is not opened.
 pub(crate) fn show_left(disk: &MemoryDisk, choice: StopChoice, answer: &mut Answer) {
     match disk.stopped(choice) {

@@ -18,6 +18,8 @@
 //! | `make IMAGE`, `open` | a journal of one page on the disk, or the one that is there |
 //! | `commit COUNT LIST`, `commit-by-parts COUNT LIST` | changes these pages; `broken` at a fault |
 //! | `count`, `page PAGE`, `pages` | the number of pages, and the images of one or of all |
+//! | `run PAGE`, `runs` | the same images, read with those of the pages behind them |
+//! | `ahead PAGE` | the image of a page that was read so with another one, or `none` |
 //! | `lost`, `kept` | the pages that a stop leaves, by that choice, or why it is not opened |
 //! | `holds` | whether the disk has the bytes of the file, also once it is stopped |
 //! | `length`, `number OFFSET` | of the disk's content, and the number in 4 of its bytes |
@@ -46,7 +48,9 @@ use std::process::ExitCode;
 use test_cases::{Form, try_files};
 
 /// The files of cases.
-const FILES: [&str; 6] = ["making", "opening", "logs", "commits", "faults", "changes"];
+const FILES: [&str; 7] = [
+    "making", "opening", "logs", "commits", "faults", "changes", "runs",
+];
 
 const FORM: Form = Form {
     separator: " -> ",

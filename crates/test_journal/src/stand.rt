@@ -2,8 +2,8 @@
 use crate::change_lists::change;
 use crate::commits::commit;
 use crate::disks::{
-    FaultyDisk, NEVER, calls_of_making, calls_of_opening, faulty, memory_of, show_left, show_page,
-    show_pages,
+    FaultyDisk, NEVER, calls_of_making, calls_of_opening, faulty, memory_of, show_ahead, show_left,
+    show_page, show_pages, show_run, show_runs,
 };
 use crate::files::forge;
 use crate::images::image_of;
@@ -92,7 +92,7 @@ impl Stand {
             "make" => self.make(rest, answer),
             "open" => self.open(answer),
             "commit" | "commit-by-parts" => self.commit(name, rest, answer),
-            "count" | "page" | "pages" => self.read(name, rest, answer),
+            "count" | "page" | "pages" | "run" | "runs" | "ahead" => self.read(name, rest, answer),
             "count-calls" => self.count_calls(rest, answer),
             "file-length" => {
                 answer.show(self.file.len());
@@ -160,6 +160,9 @@ impl Stand {
         match name {
             "count" => answer.show(journal.count()),
             "pages" => show_pages(journal, answer),
+            "run" => show_run(self.alloc, journal, self.numbers.short(rest)?, answer),
+            "runs" => show_runs(self.alloc, journal, answer),
+            "ahead" => show_ahead(journal, self.numbers.short(rest)?, answer),
             _ => show_page(journal, self.numbers.short(rest)?, answer),
         }
         Some(())

@@ -5,8 +5,9 @@ use std::alloc::Global;
 use std::io;
 use test_cases::no_data;
 
-/// How many calls a find may make behind an opening: fewer than an export makes.
-const CALLS_OF_FIND: u64 = 500;
+/// How many calls a find may make behind an opening: fewer than an export makes, which reads at
+/// most 32 pages by each.
+const CALLS_OF_FIND: u64 = 50;
 
 /// The replies to a find, and to an export that the disk does not carry to its end.
 const FOUND_AND_REFUSED: &[u8] = b"ok find 1\n1777 Reel 1777\nrefused 22 Device\n";
@@ -30,7 +31,7 @@ fn replies_in_memory(alloc: Global, script: &[u8]) -> io::Result<Vec<u8>> {
     }
 }
 
-// Whether an archive of 2,000 reels finds one of them with 500 calls of the disk more than its
+// Whether an archive of 2,000 reels finds one of them with 50 calls of the disk more than its
 // opening takes, which are too few for an export behind it.
 pub(crate) fn finds_without_reading_all(alloc: Global) -> io::Result<bool> {
     let file = file_of_reels(alloc)?;

@@ -46,7 +46,7 @@ fn try_over_empty<R: Files + Print + AllocGlobal>(
 pub(crate) fn try_counted<R: Files + Print + AllocGlobal>(rt: &R) -> io::Result<Tally> {
     let tally = try_old(rt)?.with(try_made(rt)?);
     let finds = finds_without_reading_all(rt.alloc())?;
-    let finds = say(rt, "finds-within-500-calls-and-exports-with-more", finds)?;
+    let finds = say(rt, "finds-within-50-calls-and-exports-with-more", finds)?;
     Ok(tally.with(finds))
 }
 

@@ -17,7 +17,7 @@
 //! without.
 //!
 //! Then the archive is exported twice, as one in memory is. Last, an archive of 2,000 reels is
-//! opened on a disk that fails 500 calls after the opening: a find of one of them is answered, and
+//! opened on a disk that fails 50 calls after the opening: a find of one of them is answered, and
 //! an export behind it is refused, since at most 1,024 pages are kept in memory.
 //!
 //! The program prints a line for each, and how many scripts came out as written; where something

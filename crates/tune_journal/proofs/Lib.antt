@@ -1,6 +1,7 @@
 pub mod Above
 mod AfterParts
 mod Agreeing
+mod AheadPages
 mod Applying
 mod Blanks
 mod CallRuns

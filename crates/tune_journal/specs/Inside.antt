@@ -3,6 +3,7 @@ pub mod LaidFile
 pub mod ListedChanges
 pub mod Looking
 pub mod Phases
+pub mod ReadAhead
 pub mod Rest
 pub mod Seen
 pub mod ShortImages

@@ -1,5 +1,5 @@
 // A journal, and the commit that changes it.
-ghost use Rattle.std.specs.Prelude.{◌≡◌, ◌<◌, ◌≤◌, All, length, IfOk, OnOk};
+ghost use Rattle.std.specs.Prelude.{◌≡◌, ◌<◌, ◌≤◌, All, length, IfOk, IfSome, OnOk};
 ghost use Rattle.tune_disk.specs.Disk.{Calls, Looks};
 ghost use Rattle.tune_disk.specs.Stops.{SinceThen};
 ghost use Rattle.tune_journal.specs.Held.{disk_of, disk_of_log};
@@ -8,11 +8,13 @@ ghost use Rattle.tune_journal.specs.FileOffsets.{block_bytes, gate_closed, most_
 ghost use Rattle.tune_journal.specs.Moments.{LeavesPages};
 ghost use Rattle.tune_journal.specs.Pages.{NamesAll, page_at, pages_after};
 
+use crate::ahead::PagesAhead;
 use crate::changes::{Changes, PageImage};
 use crate::commit::write_log;
 use crate::file_offsets::page_offset;
 use crate::open_fault::Broken;
 use crate::states::Logged;
+use std::alloc::Global;
 use std::marker::Model;
 use tune_disk::{DeviceFault, Disk};
 
@@ -22,6 +24,8 @@ use tune_disk::{DeviceFault, Disk};
 pub struct Journal<D: Disk> {
     pub(crate) disk: D,
     pub(crate) count: u32,
+    // what the disk has of some of the pages now
+    pub(crate) ahead: PagesAhead,
 }
 
 impl<D: Disk> Model for Journal<D> {
@@ -34,7 +38,7 @@ impl<D: Disk> Model for Journal<D> {
 
     ghost view = { λ j. held D.state j.disk j.count };
 
-    ghost invariant = { λ j. IsSound D.honest D.state j.disk j.count };
+    ghost invariant = { λ j. IsSound D.honest D.state j.disk j.count j.ahead };
 }
 
 impl<D: Disk> Journal<D> {
@@ -67,12 +71,64 @@ impl<D: Disk> Journal<D> {
         self.disk.read(page_offset(page), &mut into.bytes)
     }
 
+    /// Reads a page of the list. After a few pages that stood side by side, up to 31 behind it are
+    /// read by the same call of the disk, and stay at hand until the next commit: who reads one
+    /// page after another has fewer calls this way. Memory for 32 pages is taken for it once; where
+    /// there is none, the page is read alone.
+    ///
+    /// # Errors
+    ///
+    /// Those of [`Journal::read`].
+    pub fn read_in_runs(
+        &mut self,
+        alloc: Global,
+        page: u32,
+        into: &mut PageImage,
+    ) -> Result<(), DeviceFault>
+        requires { page < length self.old.pages }
+        ensures page { OnOk result (D.honest self.new.disk
+            → into.new.bytes ≡ page_at self.old.pages page) }
+        ensures pages { D.honest self.new.disk → self.new.pages ≡ self.old.pages }
+        ensures count { length self.new.pages ≡ length self.old.pages }
+        ensures looks { Looks D.honest D.failures D.state result self.old.disk self.new.disk }
+    {
+        if let Some(held) = self.ahead.page(page) {
+            into.bytes.copy_from_slice(held);
+            return Ok(());
+        }
+        let count = self.ahead.next_run(page, self.count);
+        if count == 1 {
+            return self.read(page, into);
+        }
+        if self.ahead.fill(alloc, &mut self.disk, page, count)? {
+            into.bytes.copy_from_slice(self.ahead.front());
+            return Ok(());
+        }
+        self.disk.read(page_offset(page), &mut into.bytes)
+    }
+
+    /// The bytes of a page of the list, where [`Journal::read_in_runs`] read it with another one
+    /// since the last commit: as the disk has them, without a call of it. `None` says nothing of
+    /// the page.
+    pub fn ahead(&self, page: u32) -> Option<&[u8]>
+        ensures page { IfSome result (λ bytes. D.honest self.now.disk
+            → bytes.now ≡ page_at self.now.pages page) }
+        ensures size { IfSome result (λ bytes. length bytes.now ≡ block_bytes) }
+        ensures within { IfSome result (λ _. page < length self.now.pages) }
+    {
+        self.ahead.page(page)
+    }
+
     /// The disk, which stands for the pages.
     pub fn into_disk(self) -> D
         ensures disk { result ≡ self.disk }
         ensures rest { LeavesPages D.honest D.state result self.pages }
     {
-        let Journal { disk, count: _ } = self;
+        let Journal {
+            disk,
+            count: _,
+            ahead: _,
+        } = self;
         disk
     }
 
@@ -133,12 +189,17 @@ impl<D: Disk> Journal<D> {
         ensures count { IfOk result (λ logged. length logged.next ≡ new_count) }
         ensures calls { Calls D.honest D.failures result self.disk (disk_of_log result) }
     {
-        let Journal { mut disk, count } = self;
+        let Journal {
+            mut disk,
+            count,
+            ahead,
+        } = self;
         match write_log(&mut disk, new_count, changes) {
             Ok(()) => Ok(Logged {
                 disk,
                 count,
                 new_count,
+                ahead,
             }),
             Err(DeviceFault) => Err(Broken { disk }),
         }

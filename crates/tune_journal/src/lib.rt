@@ -6,6 +6,7 @@
 //! those from after it alone. Opening a file ends a commit that was stopped behind its open gate.
 #![tactic(auto)]
 
+mod ahead;
 mod changes;
 mod commit;
 mod file_offsets;

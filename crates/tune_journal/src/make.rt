@@ -12,6 +12,7 @@ ghost use Rattle.tune_journal.specs.Making.{IsEmptyFile, StandsForNoneOr};
 ghost use Rattle.tune_journal.specs.Moments.{LeavesPages};
 ghost use Rattle.tune_journal.specs.Refusal.{IsUnmadeFor, IsMakeReason, CountsFailureIf};
 
+use crate::ahead::PagesAhead;
 use crate::changes::PageImage;
 use crate::commit::write_synced;
 use crate::file_offsets::{
@@ -100,7 +101,11 @@ impl<D: Disk> Journal<D> {
         let mut disk = disk;
         match settle(&mut disk) {
             Ok(0) => match lay_out(&mut disk, first) {
-                Ok(()) => Ok(Journal { disk, count: 1 }),
+                Ok(()) => Ok(Journal {
+                    disk,
+                    count: 1,
+                    ahead: PagesAhead::new(),
+                }),
                 Err(DeviceFault) => Err(hand_back(disk, OpenFault::Device)),
             },
             Ok(_) => Err(hand_back(disk, OpenFault::NotEmpty)),

@@ -9,6 +9,7 @@ ghost use Rattle.tune_journal.specs.Moments.{KeepsEither, LeftOrSame, LeavesPage
 ghost use Rattle.tune_journal.specs.Refusal.{IsRefusedFor, IsOpenReason, CountsFailureWhere};
 ghost use Rattle.tune_journal.specs.Refusal.{IsSynced, IsUnwritten};
 
+use crate::ahead::PagesAhead;
 use crate::journal::Journal;
 use crate::look::{Found, look};
 use crate::open_fault::{Broken, OpenFault, Refused, hand_back};
@@ -30,9 +31,14 @@ impl<D: Disk> Opened<D> {
         let Opened {
             mut disk,
             new_count,
+            ahead,
         } = self;
         match copy_log(&mut disk, new_count, entries) {
-            Ok(()) => Ok(Applied { disk, new_count }),
+            Ok(()) => Ok(Applied {
+                disk,
+                new_count,
+                ahead,
+            }),
             Err(DeviceFault) => Err(Broken { disk }),
         }
     }
@@ -97,9 +103,18 @@ impl<D: Disk> Journal<D> {
     {
         let mut disk = disk;
         match look(&mut disk) {
-            Ok(Found::Closed(count)) => Ok(Journal { disk, count }),
+            Ok(Found::Closed(count)) => Ok(Journal {
+                disk,
+                count,
+                ahead: PagesAhead::new(),
+            }),
             Ok(Found::Open(new_count, entries)) => {
-                match (Opened { disk, new_count }).finish(entries) {
+                let opened = Opened {
+                    disk,
+                    new_count,
+                    ahead: PagesAhead::new(),
+                };
+                match opened.finish(entries) {
                     Ok(journal) => Ok(journal),
                     Err(Broken { disk }) => Err(hand_back(disk, OpenFault::Device)),
                 }

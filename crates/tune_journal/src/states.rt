@@ -8,6 +8,7 @@ ghost use Rattle.tune_journal.specs.Image.{StandsFor, StandsForEither, gate_of};
 ghost use Rattle.tune_journal.specs.FileOffsets.{gate_closed};
 ghost use Rattle.tune_journal.specs.Moments.{LeavesPages};
 
+use crate::ahead::PagesAhead;
 use crate::changes::Changes;
 use crate::commit::{write_pages, write_synced};
 use crate::file_offsets::{GATE_CLOSED, GATE_OFFSET, GATE_OPEN};
@@ -22,6 +23,8 @@ pub struct Logged<D: Disk> {
     pub(crate) disk: D,
     pub(crate) count: u32,
     pub(crate) new_count: u32,
+    // pages that were read ahead before the commit; `close` keeps their memory alone
+    pub(crate) ahead: PagesAhead,
 }
 
 impl<D: Disk> Model for Logged<D> {
@@ -42,6 +45,8 @@ impl<D: Disk> Model for Logged<D> {
 pub struct Opened<D: Disk> {
     pub(crate) disk: D,
     pub(crate) new_count: u32,
+    // pages that were read ahead before the commit; `close` keeps their memory alone
+    pub(crate) ahead: PagesAhead,
 }
 
 impl<D: Disk> Model for Opened<D> {
@@ -62,6 +67,8 @@ impl<D: Disk> Model for Opened<D> {
 pub struct Applied<D: Disk> {
     pub(crate) disk: D,
     pub(crate) new_count: u32,
+    // pages that were read ahead before the commit; `close` keeps their memory alone
+    pub(crate) ahead: PagesAhead,
 }
 
 impl<D: Disk> Model for Applied<D> {
@@ -100,9 +107,14 @@ impl<D: Disk> Logged<D> {
             mut disk,
             count: _,
             new_count,
+            ahead,
         } = self;
         match write_synced(&mut disk, GATE_OFFSET, &[GATE_OPEN]) {
-            Ok(()) => Ok(Opened { disk, new_count }),
+            Ok(()) => Ok(Opened {
+                disk,
+                new_count,
+                ahead,
+            }),
             Err(DeviceFault) => Err(Broken { disk }),
         }
     }
@@ -130,9 +142,14 @@ impl<D: Disk> Opened<D> {
         let Opened {
             mut disk,
             new_count,
+            ahead,
         } = self;
         match write_pages(&mut disk, new_count, changes) {
-            Ok(()) => Ok(Applied { disk, new_count }),
+            Ok(()) => Ok(Applied {
+                disk,
+                new_count,
+                ahead,
+            }),
             Err(DeviceFault) => Err(Broken { disk }),
         }
     }
@@ -159,11 +176,13 @@ impl<D: Disk> Applied<D> {
         let Applied {
             mut disk,
             new_count,
+            ahead,
         } = self;
         match write_synced(&mut disk, GATE_OFFSET, &[GATE_CLOSED]) {
             Ok(()) => Ok(Journal {
                 disk,
                 count: new_count,
+                ahead: ahead.emptied(),
             }),
             Err(DeviceFault) => Err(Broken { disk }),
         }

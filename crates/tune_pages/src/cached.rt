@@ -183,7 +183,7 @@ fn add_link_in(
     ensures cap { cache.new.cap ≡ cache.old.cap }
 {
     match cache.get(&page) {
-        Some(kept) => add_link(kept, bytes),
+        Some(kept) => add_link(&kept.bytes, bytes),
         None => None,
     }
 }

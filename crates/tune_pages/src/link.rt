@@ -1,7 +1,8 @@
 // Pages of chains, as bytes.
 ghost use Rattle.std.specs.Prelude.{◌≡◌, ◌↔◌, ◌≤◌, ◌-◌, ◌++◌, length, replicate};
-ghost use Rattle.std.specs.Prelude.{IfNone, IfSome, IsTrue, OnErr, OnOk};
+ghost use Rattle.std.specs.Prelude.{IfNone, IfOk, IfSome, IsTrue, OnErr, OnOk};
 ghost use Rattle.byteorder.specs.Endian.{big_bytes};
+ghost use Rattle.tune_journal.specs.FileOffsets.{block_bytes};
 ghost use Rattle.tune_pages.specs.Chain.{next_of, size_of, piece_of, IsLink};
 ghost use Rattle.tune_pages.specs.Faults.{pages_for};
 ghost use Rattle.tune_pages.specs.Inside.Link.{link_bytes};
@@ -26,31 +27,26 @@ pub fn pages_for(bytes: usize) -> usize
 
 // The number of the next page, 0 at the end.
 #[tactic(auto, unfolding(crate::specs::Chain::next_of))]
-pub(crate) fn next_page(image: &PageImage) -> u32
-    ensures { result ≡ next_of image.now.bytes }
+pub(crate) fn next_page(image: &[u8]) -> u32
+    requires { length image.now ≡ block_bytes }
+    ensures { result ≡ next_of image.now }
 {
-    BigEndian::read_u32(&image.bytes)
-}
-
-// The bytes of a page.
-fn bytes_of(image: &PageImage) -> &[u8]
-    ensures bytes { result.now ≡ image.now.bytes }
-    ensures length { length result.now ≡ 4096 }
-{
-    &image.bytes
+    BigEndian::read_u32(image)
 }
 
 // How many of the bytes count.
 #[tactic(auto, unfolding(crate::specs::Chain::size_of))]
-pub(crate) fn size_in(image: &PageImage) -> u16
-    ensures { result ≡ size_of image.now.bytes }
+pub(crate) fn size_in(image: &[u8]) -> u16
+    requires { length image.now ≡ block_bytes }
+    ensures { result ≡ size_of image.now }
 {
-    BigEndian::read_u16(&bytes_of(image)[4..])
+    BigEndian::read_u16(&image[4..])
 }
 
 // Whether this is a page of a chain: full, or the last and not empty.
-pub(crate) fn is_link(image: &PageImage) -> bool
-    ensures { IsTrue result ↔ IsLink image.now.bytes }
+pub(crate) fn is_link(image: &[u8]) -> bool
+    requires { length image.now ≡ block_bytes }
+    ensures { IsTrue result ↔ IsLink image.now }
 {
     let size = size_in(image) as usize;
     size != 0 && (size == ROOM || (size < ROOM && next_page(image) == 0))
@@ -58,30 +54,47 @@ pub(crate) fn is_link(image: &PageImage) -> bool
 
 // Adds the bytes that count.
 #[tactic(auto, unfolding(crate::specs::Chain::piece_of))]
-pub(crate) fn add_piece(image: &PageImage, bytes: &mut Vec<u8>) -> Result<(), AllocError>
-    requires { size_of image.now.bytes ≤ piece_room }
-    ensures ok { OnOk result (bytes.new.items ≡ bytes.old.items ++ piece_of image.now.bytes) }
+pub(crate) fn add_piece(image: &[u8], bytes: &mut Vec<u8>) -> Result<(), AllocError>
+    requires size { length image.now ≡ block_bytes }
+    requires piece { size_of image.now ≤ piece_room }
+    ensures ok { OnOk result (bytes.new.items ≡ bytes.old.items ++ piece_of image.now) }
     ensures err { OnErr result (bytes.new.items ≡ bytes.old.items) }
 {
     let size = size_in(image) as usize;
-    bytes.extend_from_slice(&image.bytes[6..6 + size])?;
+    bytes.extend_from_slice(&image[6..6 + size])?;
     Ok(())
 }
 
 // Adds the bytes that count of a page of a chain, and gives the page behind it. `None`, with the
 // bytes as they were, where this can be no page of a chain or there is no memory for more bytes.
-pub(crate) fn add_link(image: &PageImage, bytes: &mut Vec<u8>) -> Option<u32>
-    ensures link { IfSome result (λ next. IsLink image.now.bytes
-        × (next ≡ next_of image.now.bytes)
-        × (bytes.new.items ≡ bytes.old.items ++ piece_of image.now.bytes)) }
+pub(crate) fn add_link(image: &[u8], bytes: &mut Vec<u8>) -> Option<u32>
+    requires { length image.now ≡ block_bytes }
+    ensures link { IfSome result (λ next. IsLink image.now × (next ≡ next_of image.now)
+        × (bytes.new.items ≡ bytes.old.items ++ piece_of image.now)) }
     ensures none { IfNone result (bytes.new.items ≡ bytes.old.items) }
 {
+    match try_link(image, bytes) {
+        Ok(found) => found,
+        Err(_) => None,
+    }
+}
+
+// The same, but that want of memory is no `None`.
+pub(crate) fn try_link(image: &[u8], bytes: &mut Vec<u8>) -> Result<Option<u32>, AllocError>
+    requires { length image.now ≡ block_bytes }
+    ensures link { IfOk result (λ found. IfSome found (λ next. IsLink image.now
+        × (next ≡ next_of image.now)
+        × (bytes.new.items ≡ bytes.old.items ++ piece_of image.now))) }
+    ensures none { IfOk result (λ found. IfNone found ((IsLink image.now → ⊥)
+        × (bytes.new.items ≡ bytes.old.items))) }
+    ensures err { OnErr result (bytes.new.items ≡ bytes.old.items) }
+{
     if !is_link(image) {
-        return None;
+        return Ok(None);
     }
     match add_piece(image, bytes) {
-        Ok(()) => Some(next_page(image)),
-        Err(_) => None,
+        Ok(()) => Ok(Some(next_page(image))),
+        Err(fault) => Err(fault),
     }
 }
 

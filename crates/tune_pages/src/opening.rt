@@ -15,16 +15,16 @@ ghost use Rattle.tune_journal.specs.Refusal.{IsUnwritten};
 ghost use Rattle.tune_pages.specs.Chain.{next_of, piece_of, IsLink};
 ghost use Rattle.tune_pages.specs.Claim.{Claimable, IsClaimable, IsChainFault, IsPageFault};
 ghost use Rattle.tune_pages.specs.Claim.{IsClaimableWithin, LooksOpening};
-ghost use Rattle.tune_pages.specs.Inside.Claiming.{CanLink};
+ghost use Rattle.tune_pages.specs.Inside.Claiming.{CanLink, IsLinkFault};
 ghost use Rattle.tune_pages.specs.Kept.{HonestAt, state_at, failures_at};
 ghost use Rattle.tune_pages.specs.OpenedPages.{only_root, disk_of_pages, disk_of_claims};
 ghost use Rattle.tune_pages.specs.OpenedPages.{IsUnopenedFor, IsPagesOpenReason, IsUnmadePagesFor};
 ghost use Rattle.tune_pages.specs.OpenedPages.{IsPagesMakeReason, IsUndoneFor};
 ghost use Rattle.tune_pages.specs.Stand.{IsFree, marked};
-ghost use Rattle.tune_pages.specs.declared.fault.ClaimFault.TheVariants.{Device};
+ghost use Rattle.tune_pages.specs.declared.fault.ClaimFault.TheVariants.{Damaged, Device};
 
 use crate::fault::ClaimFault;
-use crate::link::{add_piece, is_link, next_page};
+use crate::link::try_link;
 use crate::page_marks::PageMarks;
 use crate::pages::Pages;
 use std::alloc::Global;
@@ -71,9 +71,10 @@ fn out_of_memory<D: Disk>(journal: Journal<D>) -> Refused<D>
     }
 }
 
-// Reads a page of a journal.
+// Reads a page of a journal, and those behind it that are asked for next as it seems.
 fn read_image<D: Disk>(
     journal: &mut Journal<D>,
+    alloc: Global,
     page: u32,
     image: &mut PageImage,
 ) -> Result<(), ClaimFault>
@@ -85,9 +86,23 @@ fn read_image<D: Disk>(
     ensures looks { Looks D.honest D.failures D.state result journal.old.disk journal.new.disk }
     ensures err { IfErr result (λ fault. fault ≡ Device) }
 {
-    match journal.read(page, image) {
+    match journal.read_in_runs(alloc, page, image) {
         Ok(()) => Ok(()),
         Err(DeviceFault) => Err(ClaimFault::Device),
+    }
+}
+
+// Adds the bytes of a page of a chain, and gives the page behind it.
+fn take_link(image: &[u8], bytes: &mut Vec<u8>) -> Result<u32, ClaimFault>
+    requires { length image.now ≡ block_bytes }
+    ensures link { IfOk result (λ next. IsLink image.now × (next ≡ next_of image.now)) }
+    ensures bytes { OnOk result (bytes.new.items ≡ bytes.old.items ++ piece_of image.now) }
+    ensures fault { IfErr result (λ fault. IsLinkFault fault (IsLink image.now)) }
+{
+    match try_link(image, bytes) {
+        Ok(Some(next)) => Ok(next),
+        Ok(None) => Err(ClaimFault::Damaged),
+        Err(_) => Err(ClaimFault::OutOfMemory),
     }
 }
 
@@ -107,16 +122,30 @@ impl<D: Disk> Opening<D> {
             IsPageFault fault (IsFree self.old.claimed page)) }
         ensures looks { LooksOpening D.honest D.failures D.state result self.old self.new }
     {
+        self.claim(page)?;
+        read_image(&mut self.journal, self.alloc, page, image)
+    }
+
+    // Claims a page.
+    fn claim(&mut self, page: u32) -> Result<(), ClaimFault>
+        ensures free { OnOk result (IsFree self.old.claimed page
+            × (self.new.claimed ≡ slice_set self.old.claimed page true)) }
+        ensures within { OnOk result (page < length self.old.pages) }
+        ensures damaged { IfErr result (λ fault.
+            (fault ≡ Damaged) × (IsFree self.old.claimed page → ⊥)) }
+        ensures disk { self.new.disk ≡ self.old.disk }
+        ensures pages { self.new.pages ≡ self.old.pages }
+    {
         let place = page as usize;
         if place >= self.claimed.len() || self.claimed[place] {
             return Err(ClaimFault::Damaged);
         }
         self.claimed[place] = true;
-        read_image(&mut self.journal, page, image)
+        Ok(())
     }
 
     // Claims a page of a chain, adds its bytes, and gives the page behind it. The image is where
-    // the page is read.
+    // the page is read, if it was not read with another one.
     fn claim_link(
         &mut self,
         page: u32,
@@ -134,14 +163,12 @@ impl<D: Disk> Opening<D> {
             → IsChainFault fault (CanLink self.old.pages self.old.claimed page)) }
         ensures looks { LooksOpening D.honest D.failures D.state result self.old self.new }
     {
-        self.claim_page_into(page, image)?;
-        if !is_link(image) {
-            return Err(ClaimFault::Damaged);
+        self.claim(page)?;
+        if let Some(held) = self.journal.ahead(page) {
+            return take_link(held, bytes);
         }
-        match add_piece(image, bytes) {
-            Ok(()) => Ok(next_page(image)),
-            Err(_) => Err(ClaimFault::OutOfMemory),
-        }
+        read_image(&mut self.journal, self.alloc, page, image)?;
+        take_link(&image.bytes, bytes)
     }
 
     /// Claims the pages of the chain that begins at `first`, and gives its bytes. No bytes are no
@@ -241,7 +268,7 @@ impl<D: Disk> Opening<D> {
         ensures looks { LooksOpening D.honest D.failures D.state result self.old self.new }
     {
         let mut image = PageImage::blank();
-        read_image(&mut self.journal, 0, &mut image)?;
+        read_image(&mut self.journal, self.alloc, 0, &mut image)?;
         Ok(image)
     }
 

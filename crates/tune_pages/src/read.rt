@@ -114,7 +114,7 @@ impl<D: Disk> Pages<D> {
             return Ok(());
         }
         match mem::replace(&mut self.held, Held::Gone) {
-            Held::Open(mut journal) => match journal.read(page, image) {
+            Held::Open(mut journal) => match journal.read_in_runs(self.alloc, page, image) {
                 Ok(()) => {
                     self.held = Held::Open(journal);
                     self.cached.keep(page, image, keeps);

@@ -1,6 +1,6 @@
 // Chains as a work stands for them: their bytes, and their pages given back.
 ghost use Rattle.std.specs.Prelude.{◌≡◌, ◌++◌, [], ◌<◌, ℕ, List, true, false, slice_set};
-ghost use Rattle.std.specs.Prelude.{IfOk, IfSome, IfNone, OnOk};
+ghost use Rattle.std.specs.Prelude.{IfOk, IfErr, IfSome, IfNone, OnOk};
 ghost use Rattle.tune_journal.specs.Pages.{page_at};
 ghost use Rattle.tune_pages.specs.Chain.{next_of, piece_of, IsLink};
 ghost use Rattle.tune_pages.specs.Faults.{AnswersRead};
@@ -10,10 +10,11 @@ ghost use Rattle.tune_pages.specs.PageLooks.{LooksAt, SameStand};
 ghost use Rattle.tune_pages.specs.Stand.{IsUsed, HasChain, HasSomeChain};
 ghost use Rattle.tune_pages.specs.Stand.{without_page, without_pages};
 ghost use Rattle.tune_pages.specs.Work.{stand, Fits, IsIdle};
+ghost use Rattle.tune_pages.specs.declared.fault.Fault.TheVariants.{OutOfMemory};
 
 use crate::fault::Fault;
-use crate::link::{add_piece, is_link, next_page};
-use crate::pages::Pages;
+use crate::link::{add_piece, is_link, next_page, try_link};
+use crate::pages::{Held, Pages};
 use crate::work::Work;
 use tune_disk::Disk;
 use tune_journal::PageImage;
@@ -160,10 +161,13 @@ impl<D: Disk> Pages<D> {
         if let Some(next) = self.add_kept_link(work, page, bytes) {
             return Ok(Some(next));
         }
+        if let Some(next) = self.add_link_ahead(work, page, bytes, keeps)? {
+            return Ok(Some(next));
+        }
         let mut image = PageImage::blank();
         match self.read_link(work, page, &mut image, keeps) {
-            Ok(true) => match add_piece(&image, bytes) {
-                Ok(()) => Ok(Some(next_page(&image))),
+            Ok(true) => match add_piece(&image.bytes, bytes) {
+                Ok(()) => Ok(Some(next_page(&image.bytes))),
                 Err(_) => Err(Fault::OutOfMemory),
             },
             Ok(false) => Ok(None),
@@ -190,6 +194,44 @@ impl<D: Disk> Pages<D> {
         self.cached.add_link(page, bytes)
     }
 
+    // Adds the bytes of a page of a chain that was read with another one, where they stand, and
+    // gives the page behind it. None, with the bytes as they were, where the work changes pages,
+    // where the page was not read so, or can be no page of a chain, and where its image is to be
+    // kept.
+    fn add_link_ahead(
+        &self,
+        work: &Work,
+        page: u32,
+        bytes: &mut Vec<u8>,
+        keeps: bool,
+    ) -> Result<Option<u32>, Fault>
+        requires fits { Fits self.now work.now }
+        requires used { IsUsed (stand self.now work.now).used page }
+        ensures link { let image = page_at (stand self.now work.now).pages page in
+            IfOk result (λ found. IfSome found (λ next. HonestAt D.honest self.now.disk
+            → IsLink image × (next ≡ next_of image)
+            × (bytes.new.items ≡ bytes.old.items ++ piece_of image))) }
+        ensures none { IfOk result (λ found. IfNone found (bytes.new.items ≡ bytes.old.items)) }
+        ensures err { IfErr result (λ fault. fault ≡ OutOfMemory) }
+    {
+        if keeps {
+            return Ok(None);
+        }
+        if !work.changes.is_empty() {
+            return Ok(None);
+        }
+        match &self.held {
+            Held::Open(journal) => match journal.ahead(page) {
+                Some(held) => match try_link(held, bytes) {
+                    Ok(found) => Ok(found),
+                    Err(_) => Err(Fault::OutOfMemory),
+                },
+                None => Ok(None),
+            },
+            _ => Ok(None),
+        }
+    }
+
     // Frees a page of a chain, and gives the page behind it; none where the page can be no page of
     // a chain.
     fn free_link(&mut self, work: &mut Work, page: u32) -> Result<Option<u32>, Fault>
@@ -214,7 +256,7 @@ impl<D: Disk> Pages<D> {
         let mut image = PageImage::blank();
         match self.read_link(work, page, &mut image, true) {
             Ok(true) => {
-                let next = next_page(&image);
+                let next = next_page(&image.bytes);
                 match self.free(work, page) {
                     Ok(()) => Ok(Some(next)),
                     Err(_) => Err(Fault::OutOfMemory),
@@ -254,7 +296,7 @@ impl<D: Disk> Pages<D> {
             return Ok(false);
         }
         match self.read_image(work, page, image, keeps) {
-            Ok(()) => Ok(is_link(image)),
+            Ok(()) => Ok(is_link(&image.bytes)),
             Err(fault) => Err(fault),
         }
     }

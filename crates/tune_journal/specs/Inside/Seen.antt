@@ -4,6 +4,7 @@ use Rattle.std.specs.Coded.{Coded, code_by, coded×, coded_list, coded_ℕ}
 use Rattle.tune_disk.specs.Disk.{DiskState}
 use Rattle.tune_journal.specs.Held.{Held, Staged, Decided}
 use Rattle.tune_journal.specs.Image.{pages_of, log_of}
+use Rattle.tune_journal.specs.Inside.ReadAhead.{AheadPages, IsAhead}
 use Rattle.tune_journal.specs.Inside.Rest.{IsAtRest, IsLogged, IsOpened, IsApplied}
 use Rattle.tune_journal.specs.FileOffsets.{most_pages}
 use Rattle.tune_journal.specs.Pages.{changed}
@@ -60,10 +61,11 @@ module _ {D : Type 0} where
 
   -- A count is in bounds whatever the disk answered; the rest holds of an honest disk alone.
   module _ (honest : D → Type 0) (state : D → DiskState) where
-    pub record IsSound (disk : D) (n : ℕ) : Type 0 where
+    pub record IsSound (disk : D) (n : ℕ) (held_ahead : AheadPages) : Type 0 where
       pub least : 1 ≤ n
       pub most : n ≤ most_pages
       pub rest : honest disk → IsAtRest n (state disk)
+      pub ahead : IsAhead honest state disk n held_ahead
 
     pub record IsSoundLogged (disk : D) (n m : ℕ) : Type 0 where
       pub least : 1 ≤ m

@@ -1,12 +1,23 @@
-use Rattle.std.proofs.Common.{◌∙◌, List, ℕ, subst}
+use Rattle.std.proofs.Common.{arith, ◌∙◌, List, ℕ, subst}
 use Rattle.tune_disk.specs.Stops.{LeavesOnly}
 use Rattle.tune_journal.specs.Image.{StandsFor}
 use Rattle.tune_journal.specs.Making.{StandsForNoneOr}
 use Rattle.tune_journal.proofs.Rests.{rest_leaves}
+use Rattle.tune_journal.proofs.AheadPages.{none_ahead}
 use Rattle.tune_journal.proofs.Agreeing.{length-pages_of}
 use Rattle.tune_journal.proofs.Openings.{synced_since}
 use Rattle.tune_journal.proofs.Making.{making_since, empty_none, nothing_in}
 use Rattle.tune_journal.proofs.journal.Journal.make.Goals as goal
+
+pub invariant_of-result : goal.invariant_of-result
+invariant_of-result g c = record {
+  least = omega arith;
+  most = omega arith;
+  rest = λ h.
+      (let empty = c.in-Ok-eq0.ensures.ok (c.lay_out.ensures.calls.was_honest h) in
+      c.in-Ok-lay_out.ensures.rest h (empty.0.seen ∙ nothing_in _ _ c.in-Ok-eq0.field-0-test empty.1));
+  ahead = none_ahead g.D.Disk.honest g.D.Disk.state c.lay_out.new.disk 1 c.new.result c.new.ensures;
+}
 
 pub returns-in-Ok-lay_out-clause-moments : goal.returns-in-Ok-lay_out-clause-moments
 returns-in-Ok-lay_out-clause-moments g c = λ h only.

@@ -1,6 +1,7 @@
 use Rattle.std.proofs.Common.{◌∙◌, sym}
 use Rattle.tune_journal.specs.FileOffsets.{gate_closed}
 use Rattle.tune_journal.proofs.AfterParts.{closed_after, closed_pages}
+use Rattle.tune_journal.proofs.AheadPages.{none_ahead}
 use Rattle.tune_journal.proofs.Agreeing.{gate_written, length-pages_of}
 use Rattle.tune_journal.proofs.PartsSince.{closing_since}
 use Rattle.tune_journal.proofs.Rests.{rest_leaves}
@@ -13,6 +14,7 @@ invariant_of-result g c = record {
   rest = λ h.
       closed_after _ _ _ (c.self.invariant.applied (c.in-Ok.ensures.calls.was_honest h)) (c.in-Ok.ensures.writes h)
       (gate_written gate_closed _ _ (c.in-Ok.ensures.written h));
+  ahead = none_ahead g.D.Disk.honest g.D.Disk.state c.write_synced.new.disk c.self.inside.new_count c.emptied.result c.emptied.ensures;
 }
 
 pub returns-in-Ok-clause-moments : goal.returns-in-Ok-clause-moments

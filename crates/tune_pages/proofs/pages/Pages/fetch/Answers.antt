@@ -26,6 +26,6 @@ invariant_of-self-in-Ok g c =
       λ shut honest.
           (let was = (rw held at c.self.invariant.3) shut (c.in-Ok.ensures.looks.calls.was_honest honest) in
           subst (λ (all : List (List ℕ)). AreKept all c.keep.new.self) (sym (c.in-Ok.ensures.pages honest))
-          (kept_more pages c.read.new.self c.keep.new.self c.args.page c.read-in-Open.new.into.bytes (λ entry has. was entry (c.read.ensures.only entry has))
+          (kept_more pages c.read.new.self c.keep.new.self c.args.page c.read_in_runs.new.into.bytes (λ entry has. was entry (c.read.ensures.only entry has))
           c.keep.ensures below (c.in-Ok.ensures.page honest))),
     )
