@@ -4,7 +4,7 @@ use Rattle.tiered_vector.specs.Tiers.{tiered}
 use Rattle.tiered_vector.proofs.Joined.{length-tiered}
 
 -- there are items for all rings
-pub enough_held : {T : Type 0} (rings : ℕ) (turns : List ℕ) (items : List T) → 256 * rings ≤ length items → 256 * length (take rings turns) ≤ length items
+pub enough_held : {T : Type 0} (rings : ℕ) (turns : List ℕ) (items : List T) → 1023 * rings ≤ length items → 1023 * length (take rings turns) ≤ length items
 enough_held rings turns items within = let count = length-take rings turns in omega arith
 
 -- the list is as long

@@ -1,7 +1,19 @@
 -- Lists in two parts, of which each is changed.
-use Rattle.std.proofs.Common.{◌≡◌, ℕ, ◌<◌, ◌≤◌, List, [], ◌∷◌, ◌++◌, length, ◌∙◌, ap, sym, append_assoc}
+use Rattle.std.proofs.Common.{◌≡◌, ℕ, ◌<◌, ◌≤◌, List, [], ◌∷◌, ◌++◌, length, get_or, ◌∙◌, ap, sym, append_assoc, arith}
+use Rattle.std.proofs.lemmas.List.{get_or_append_left}
 use Rattle.std.proofs.lemmas.List.Edits.{remove-append_left, insert-append_left}
 use Rattle.std.specs.List.{insert, remove}
+
+-- the first item of a list passed on, where another one came behind the last
+pub first_passed : {T : Type 0} (all all' : List T) (last gone : T) → 0 < length all → all ++ last ∷ [] ≡ gone ∷ all'
+    → (gone ≡ get_or all 0 gone) × (all' ≡ remove all 0 ++ last ∷ [])
+first_passed [] all' last gone some passed = absurd (omega arith)
+first_passed (x ∷ xs) all' last gone some passed = (cc, cc)
+
+-- an item of the front
+pub item_in_front : {T : Type 0} (all front back : List T) → all ≡ front ++ back → (place : ℕ) (d : T) → place < length front
+    → get_or front place d ≡ get_or all place d
+item_in_front all front back was place d within = sym (get_or_append_left front back d place within) ∙ ap (λ xs. get_or xs place d) (sym was)
 
 module _ {T : Type 0} (all front back all' front' back' : List T) (was : all ≡ front ++ back) (is : all' ≡ front' ++ back') where
   -- each item moved one place down

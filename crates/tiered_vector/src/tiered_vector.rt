@@ -1,5 +1,5 @@
 // A list in tiers.
-ghost use Rattle.std.specs.Prelude.{◌≡◌, ◌+◌, ◌*◌, ◌-◌, ◌<◌, ◌≤◌, ◌++◌, [], length, take};
+ghost use Rattle.std.specs.Prelude.{◌≡◌, ◌+◌, ◌*◌, ◌-◌, ◌<◌, ◌≤◌, ◌++◌, ◌∷◌, [], length, take};
 ghost use Rattle.std.specs.Prelude.{replicate, slice_index_or, slice_set, vec_capacity};
 ghost use Rattle.std.specs.Prelude.{OnOk};
 ghost use Rattle.std.specs.List.{insert, remove};
@@ -9,21 +9,21 @@ ghost use Rattle.tiered_vector.specs.Inside.Slots.{slot_of};
 use crate::rings::{RING, put_in, straighten, take_out};
 use std::alloc::{AllocError, Global};
 use std::marker::Model;
+use std::mem;
 
-/// A list. Where an item comes or goes, others of its ring move, and one of each later ring: at
-/// most 256 in each case. There are at most 256 rings, of 256 items each; what stands behind them
-/// moves as in a vector.
+/// A list. Where an item comes or goes, others of its ring move, and one of each later ring. There
+/// are at most 64 rings, of 1,023 items each; what stands behind them moves as in a vector.
 #[derive(Drop)]
-pub struct TieredVector<T: Copy> {
+pub struct TieredVector<T> {
     // the rings, and behind them what is left
     items: Vec<T>,
     // where each ring begins in its part
-    turns: [u16; 256],
+    turns: [u16; 64],
     // how many rings there are
     rings: usize,
 }
 
-impl<T: Copy> Model for TieredVector<T> {
+impl<T> Model for TieredVector<T> {
     ghost use Rattle.std.specs.Prelude.{◌≤◌, ◌*◌, length, take, vec_capacity};
     ghost use Rattle.tiered_vector.specs.Tiers.{AreTurns, Tiered, tiered};
 
@@ -34,17 +34,17 @@ impl<T: Copy> Model for TieredVector<T> {
       room = vec_capacity list.items;
     } };
 
-    ghost invariant = { λ list. (list.rings ≤ 256) × (256 * list.rings ≤ length list.items.items)
+    ghost invariant = { λ list. (list.rings ≤ 64) × (1023 * list.rings ≤ length list.items.items)
         × AreTurns (take list.rings list.turns) };
 }
 
 // Makes rings of so many items, as far as they and the turns go, where there are some already.
 fn add_rings(turns: &mut [u16], rings: usize, items: usize) -> usize
     requires turns { rings ≤ length turns.old }
-    requires items { 256 * rings ≤ items }
+    requires items { 1023 * rings ≤ items }
     ensures more { rings ≤ result }
     ensures turns { result ≤ length turns.old }
-    ensures items { 256 * result ≤ items }
+    ensures items { 1023 * result ≤ items }
     ensures straight { take result turns.new
         ≡ take rings turns.old ++ replicate (result - rings) 0 }
 {
@@ -55,7 +55,8 @@ fn add_rings(turns: &mut [u16], rings: usize, items: usize) -> usize
 
 // Where the item at a place stands.
 fn slot(turns: &[u16], place: usize) -> usize
-    requires { AreTurns turns.now }
+    requires rings { length turns.now ≤ 64 }
+    requires turns { AreTurns turns.now }
     ensures { result ≡ slot_of turns.now place }
 {
     let ring = place / RING;
@@ -66,10 +67,11 @@ fn slot(turns: &[u16], place: usize) -> usize
 }
 
 // The item at a place goes. Where it stands in a ring, there are others behind the rings.
-fn remove_from<T: Copy>(items: &mut Vec<T>, turns: &mut [u16], place: usize)
+fn remove_from<T>(items: &mut Vec<T>, turns: &mut [u16], place: usize) -> T
     requires turns { AreTurns turns.old }
-    requires items { 256 * length turns.old < length items.old.items }
+    requires items { 1023 * length turns.old < length items.old.items }
     requires place { place < length items.old.items }
+    ensures gone { result ≡ slice_index_or (tiered turns.old items.old.items) place result }
     ensures items { tiered turns.new items.new.items
         ≡ remove (tiered turns.old items.old.items) place }
     ensures turns { AreTurns turns.new }
@@ -78,18 +80,17 @@ fn remove_from<T: Copy>(items: &mut Vec<T>, turns: &mut [u16], place: usize)
 {
     let most = turns.len() * RING;
     if place >= most {
-        let _gone = items.remove(place);
-        return;
+        return items.remove(place);
     }
     let last = items.remove(most);
     let (rings, _) = items.split_at_mut(most);
-    take_out(rings, turns, place, last);
+    take_out(rings, turns, place, last)
 }
 
 // An item comes to a place. There is room for it.
-fn insert_into<T: Copy>(items: &mut Vec<T>, turns: &mut [u16], place: usize, item: T)
+fn insert_into<T>(items: &mut Vec<T>, turns: &mut [u16], place: usize, item: T)
     requires turns { AreTurns turns.old }
-    requires items { 256 * length turns.old ≤ length items.old.items }
+    requires items { 1023 * length turns.old ≤ length items.old.items }
     requires place { place ≤ length items.old.items }
     requires room { length items.old.items < vec_capacity items.old }
     ensures items { tiered turns.new items.new.items
@@ -110,12 +111,12 @@ fn insert_into<T: Copy>(items: &mut Vec<T>, turns: &mut [u16], place: usize, ite
 
 // Gives how many rings there are then: where nothing stands behind the rings, the last becomes what
 // stands behind the others.
-fn leave_some<T: Copy>(items: &mut [T], turns: &mut [u16]) -> usize
+fn leave_some<T>(items: &mut [T], turns: &mut [u16]) -> usize
     requires turns { AreTurns turns.old }
-    requires items { 256 * length turns.old ≤ length items.old }
+    requires items { 1023 * length turns.old ≤ length items.old }
     requires some { 0 < length items.old }
     ensures fewer { result ≤ length turns.old }
-    ensures some { 256 * result < length items.old }
+    ensures some { 1023 * result < length items.old }
     ensures turns { AreTurns (take result turns.new) }
     ensures items { tiered (take result turns.new) items.new ≡ tiered turns.old items.old }
 {
@@ -130,29 +131,31 @@ fn leave_some<T: Copy>(items: &mut [T], turns: &mut [u16]) -> usize
     last
 }
 
-// Takes out the item at a place, of so many rings, and gives how many there are then.
-fn remove_item<T: Copy>(items: &mut Vec<T>, turns: &mut [u16], rings: usize, place: usize) -> usize
-    requires rings { rings ≤ length turns.old }
-    requires turns { AreTurns (take rings turns.old) }
-    requires items { 256 * rings ≤ length items.old.items }
+// Takes out the item at a place, of so many rings, and says how many there are then.
+fn remove_item<T>(items: &mut Vec<T>, turns: &mut [u16], rings: &mut usize, place: usize) -> T
+    requires rings { rings.old ≤ length turns.old }
+    requires turns { AreTurns (take rings.old turns.old) }
+    requires items { 1023 * rings.old ≤ length items.old.items }
     requires place { place < length items.old.items }
-    ensures rings { result ≤ rings }
-    ensures turns { AreTurns (take result turns.new) }
-    ensures within { 256 * result ≤ length items.new.items }
-    ensures items { tiered (take result turns.new) items.new.items
-        ≡ remove (tiered (take rings turns.old) items.old.items) place }
+    ensures gone { result
+        ≡ slice_index_or (tiered (take rings.old turns.old) items.old.items) place result }
+    ensures rings { rings.new ≤ rings.old }
+    ensures turns { AreTurns (take rings.new turns.new) }
+    ensures within { 1023 * rings.new ≤ length items.new.items }
+    ensures items { tiered (take rings.new turns.new) items.new.items
+        ≡ remove (tiered (take rings.old turns.old) items.old.items) place }
+    ensures length { length items.new.items + 1 ≡ length items.old.items }
     ensures room { vec_capacity items.new ≡ vec_capacity items.old }
 {
-    let (turned, _) = turns.split_at_mut(rings);
-    let fewer = leave_some(items, turned);
-    let (turned, _) = turns.split_at_mut(fewer);
-    remove_from(items, turned, place);
-    fewer
+    let (turned, _) = turns.split_at_mut(*rings);
+    *rings = leave_some(items, turned);
+    let (turned, _) = turns.split_at_mut(*rings);
+    remove_from(items, turned, place)
 }
 
 // Puts an item in at a place, of so many rings, and gives how many there are then. There is room
 // for it.
-fn insert_item<T: Copy>(
+fn insert_item<T>(
     items: &mut Vec<T>,
     turns: &mut [u16],
     rings: usize,
@@ -161,12 +164,12 @@ fn insert_item<T: Copy>(
 ) -> usize
     requires rings { rings ≤ length turns.old }
     requires turns { AreTurns (take rings turns.old) }
-    requires items { 256 * rings ≤ length items.old.items }
+    requires items { 1023 * rings ≤ length items.old.items }
     requires place { place ≤ length items.old.items }
     requires room { length items.old.items < vec_capacity items.old }
     ensures rings { result ≤ length turns.old }
     ensures turns { AreTurns (take result turns.new) }
-    ensures within { 256 * result ≤ length items.new.items }
+    ensures within { 1023 * result ≤ length items.new.items }
     ensures items { tiered (take result turns.new) items.new.items
         ≡ insert (tiered (take rings turns.old) items.old.items) place item }
     ensures room { vec_capacity items.new ≡ vec_capacity items.old }
@@ -179,7 +182,7 @@ fn insert_item<T: Copy>(
 // The items come behind those of a vector, in order.
 fn copy_rings<T: Copy>(items: &[T], turns: &[u16], to: &mut Vec<T>) -> Result<(), AllocError>
     requires turns { AreTurns turns.now }
-    requires items { 256 * length turns.now ≤ length items.now }
+    requires items { 1023 * length turns.now ≤ length items.now }
     ensures { OnOk result (to.new.items ≡ to.old.items ++ tiered turns.now items.now) }
 {
     if turns.is_empty() {
@@ -192,7 +195,7 @@ fn copy_rings<T: Copy>(items: &[T], turns: &[u16], to: &mut Vec<T>) -> Result<()
     copy_rings(others, &turns[1..], to)
 }
 
-impl<T: Copy> TieredVector<T> {
+impl<T> TieredVector<T> {
     /// A list without an item. It takes no memory.
     pub fn new(alloc: Global) -> TieredVector<T>
         ensures { result.items ≡ [] }
@@ -205,7 +208,7 @@ impl<T: Copy> TieredVector<T> {
         ensures items { result.items ≡ items.items }
         ensures room { result.room ≡ vec_capacity items }
     {
-        let mut turns = [0; 256];
+        let mut turns = [0; 64];
         let rings = add_rings(&mut turns, 0, items.len());
         TieredVector {
             items,
@@ -237,30 +240,33 @@ impl<T: Copy> TieredVector<T> {
     }
 
     /// The item at a place.
-    pub fn at(&self, place: usize) -> T
+    pub fn get(&self, place: usize) -> &T
         requires { place < length self.now.items }
-        ensures { result ≡ slice_index_or self.now.items place result }
+        ensures { result.now ≡ slice_index_or self.now.items place result.now }
     {
-        self.items[slot(&self.turns[..self.rings], place)]
+        &self.items[slot(&self.turns[..self.rings], place)]
     }
 
-    /// Puts an item in the place of another.
-    pub fn put(&mut self, place: usize, item: T)
+    /// Puts an item in the place of another, which it gives.
+    pub fn replace(&mut self, place: usize, item: T) -> T
         requires { place < length self.old.items }
+        ensures gone { result ≡ slice_index_or self.old.items place result }
         ensures items { self.new.items ≡ slice_set self.old.items place item }
         ensures room { self.new.room ≡ self.old.room }
     {
         let slot = slot(&self.turns[..self.rings], place);
-        self.items[slot] = item;
+        mem::replace(&mut self.items[slot], item)
     }
 
-    /// Takes the item at a place out.
-    pub fn remove(&mut self, place: usize)
+    /// Takes the item at a place out, and gives it. There is room for another then.
+    pub fn remove(&mut self, place: usize) -> T
         requires { place < length self.old.items }
+        ensures gone { result ≡ slice_index_or self.old.items place result }
         ensures items { self.new.items ≡ remove self.old.items place }
         ensures room { self.new.room ≡ self.old.room }
+        ensures spare { length self.new.items < self.new.room }
     {
-        self.rings = remove_item(&mut self.items, &mut self.turns, self.rings, place);
+        remove_item(&mut self.items, &mut self.turns, &mut self.rings, place)
     }
 
     /// Puts an item in at a place, for which there is room. It takes no memory.
@@ -271,6 +277,47 @@ impl<T: Copy> TieredVector<T> {
         ensures room { self.new.room ≡ self.old.room }
     {
         self.rings = insert_item(&mut self.items, &mut self.turns, self.rings, place, item);
+    }
+
+    /// Puts an item behind the others, for which there is room. It takes no memory.
+    pub fn push(&mut self, item: T)
+        requires { length self.old.items < self.old.room }
+        ensures items { self.new.items ≡ self.old.items ++ item ∷ [] }
+        ensures room { self.old.room ≤ self.new.room }
+    {
+        self.items.push(item).unwrap();
+        self.rings = add_rings(&mut self.turns, self.rings, self.items.len());
+    }
+
+    /// Makes room for so many more items.
+    ///
+    /// # Errors
+    ///
+    /// `AllocError` where there was no memory for them.
+    pub fn reserve(&mut self, more: usize) -> Result<(), AllocError>
+        ensures items { self.new.items ≡ self.old.items }
+        ensures room { OnOk result (length self.new.items + more ≤ self.new.room) }
+    {
+        self.items.reserve(more)
+    }
+}
+
+impl<T: Copy> TieredVector<T> {
+    /// The item at a place.
+    pub fn at(&self, place: usize) -> T
+        requires { place < length self.now.items }
+        ensures { result ≡ slice_index_or self.now.items place result }
+    {
+        *self.get(place)
+    }
+
+    /// Puts an item in the place of another.
+    pub fn put(&mut self, place: usize, item: T)
+        requires { place < length self.old.items }
+        ensures items { self.new.items ≡ slice_set self.old.items place item }
+        ensures room { self.new.room ≡ self.old.room }
+    {
+        self.replace(place, item);
     }
 
     /// Puts items behind the others. There is room for them. It takes no memory.

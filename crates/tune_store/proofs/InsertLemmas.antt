@@ -1,13 +1,10 @@
 -- A tune goes to the place where its number belongs.
-use Rattle.std.proofs.Common.{◌≡◌, ℕ, zero, suc, ◌+◌, ◌<◌, ◌≤◌, List, [], ◌∷◌, length, get_or, Some, refl, ap, sym, ◌∙◌, subst, arith}
+use Rattle.std.proofs.Common.{◌≡◌, ℕ, zero, suc, ◌+◌, ◌<◌, ◌≤◌, List, [], ◌∷◌, length, get_or, Some, refl, ap, sym, ◌∙◌, subst, arith, inl, inr}
 use Rattle.std.specs.List.{AllWithin, insert, remove}
-use Rattle.std.specs.Cmp.{ranked}
-use Rattle.std.specs.Ordering.{nat_cmp}
-use Rattle.std.specs.declared.cmp.Ordering.TheVariants.{Less, Greater}
-use Rattle.std.proofs.lemmas.Bool.{lt-ltb, le-ltb}
+use Rattle.std.proofs.lemmas.Bool.{cases_eq, cases_lt, lt-ltb, le-ltb}
 use Rattle.tune_store.specs.State.{RisesFrom, tune_at}
 use Rattle.tune_store.specs.TuneSteps.{without, inserted, moved_if, moved}
-use Rattle.tune_store.specs.Inside.Lists.{IsPlaceAfter}
+use Rattle.tune_store.specs.Inside.Lists.{IsPlaceAfter, IsPlaceFrom}
 use Rattle.tune_store.specs.declared.tune.Tune.{Tune}
 use Rattle.tune_store.proofs.PlaceLemmas.{ordered, above, tune_at-place, without-place}
 use Rattle.tune_store.proofs.StateLemmas.{rises-without}
@@ -31,15 +28,33 @@ place_behind number tunes place rises l named = record {
   behind = λ k d from to. let less = ordered_strictly 0 tunes place k d rises (omega arith) to in let e = named d in omega arith;
 }
 
--- between the lesser numbers and the greater ones
-pub place_between : (number : ℕ) (tunes : List Tune) (place : ℕ) → place ≤ length tunes
-    → AllWithin (λ tune. nat_cmp tune.number number ≡ Less) tunes 0 place
-    → AllWithin (λ tune. nat_cmp tune.number number ≡ Greater) tunes place (length tunes) → IsPlaceAfter number tunes place
-place_between number tunes place l less greater = record {
-  within = l;
-  before = λ k d from below. let lower : (get_or tunes k d).number < number = ranked _ _ _ (sym (less k d from below)) in omega arith;
-  behind = λ k d from to. ranked _ _ _ (sym (greater k d from to));
-}
+-- the first tune whose number is not below another one has a greater number
+module _ (number : ℕ) (tunes : List Tune) (place : ℕ) (rises : RisesFrom 0 tunes) (is : IsPlaceFrom number tunes place)
+    (other : place < length tunes → (d : Tune) → (get_or tunes place d).number ≡ number → ⊥) where
+  -- and so have those behind it
+  greater : (k : ℕ) (d : Tune) → place ≤ k → k < length tunes → number < (get_or tunes k d).number
+  greater k d from to =
+      let first = is.behind place d (omega arith) (omega arith) in
+      let later = ordered 0 tunes place k d rises from to in
+      elim (cases_eq (get_or tunes place d).number number) [
+        | inl same ↦ absurd (other (omega arith) d same)
+        | inr differs ↦ omega arith
+      ]
+
+  -- it is between the lesser numbers and the greater ones
+  pub place_between : IsPlaceAfter number tunes place
+  place_between = record {
+    within = is.within;
+    before = λ k d from below. let less = is.before k d from below in omega arith;
+    behind = λ k d from to. greater k d from to;
+  }
+
+  -- and no tune has the number
+  pub no_place : (n : ℕ) (d : Tune) → n < length tunes → (get_or tunes n d).number ≡ number → ⊥
+  no_place n d l e = elim (cases_lt n place) [
+    | inl below ↦ let less = is.before n d (omega arith) below in omega arith
+    | inr from ↦ let more = greater n d from l in omega arith
+  ]
 
 -- THE MOVE
 -- the tune is put in there

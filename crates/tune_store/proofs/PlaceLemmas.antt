@@ -1,13 +1,10 @@
 -- Which tune has a number, and at which place of the list it is.
-use Rattle.std.proofs.Common.{◌≡◌, ℕ, zero, suc, ◌<◌, ◌≤◌, cond, eqb, List, [], ◌∷◌, ◌++◌, length, take, drop, get_or, Some, None, refl, ap, sym, ◌∙◌, arith}
-use Rattle.std.proofs.Common.{inl, inr}
+use Rattle.std.proofs.Common.{◌≡◌, ℕ, zero, suc, ◌+◌, ◌<◌, ◌≤◌, cond, eqb, List, [], ◌∷◌, ◌++◌, length, take, drop, get_or, Some, None, refl, ap, sym, ◌∙◌}
+use Rattle.std.proofs.Common.{arith, inl, inr}
 use Rattle.std.proofs.Math.ListN.{set}
 use Rattle.std.specs.List.{AllWithin}
-use Rattle.std.specs.Cmp.{ranked}
-use Rattle.std.specs.Ordering.{ordering_index, nat_cmp}
-use Rattle.std.specs.declared.cmp.Ordering.TheVariants.{Less, Greater}
-use Rattle.std.proofs.lemmas.Bool.Decides.{nat_tests}
-use Rattle.std.proofs.lemmas.Bool.{ne_eqb, eq-eqb, eqb-true, cases_lt, cases_Bool}
+use Rattle.std.proofs.lemmas.List.{get_or_default}
+use Rattle.std.proofs.lemmas.Bool.{ne_eqb, eq-eqb, eqb-true, cases_Bool}
 use Rattle.tune_store.specs.State.{RisesFrom}
 use Rattle.tune_store.specs.State.{tune_at}
 use Rattle.tune_store.specs.TuneSteps.{with_tune, without}
@@ -130,16 +127,16 @@ tune_at-none number (tune ∷ tunes) h =
     let other = ne_eqb tune.number number (h 0 tune (omega arith)) in
     rw other (tune_at-none number tunes (λ n d l. h (suc n) d (omega arith)))
 
--- BINARY SEARCH
--- the answer of a comparison with one number rises with the other
-pub cmp_rises : (x y number : ℕ) → x ≤ y → ordering_index (nat_cmp x number) ≤ ordering_index (nat_cmp y number)
-cmp_rises x y number le = grind (arith, nat_tests)
+-- BY HALVES
+-- up to a tune of a lesser number all are lesser, and from one that is not lesser on none is
+pub lesser : (number : ℕ) (tunes : List Tune) (place : ℕ) (tune : Tune) → RisesFrom 0 tunes → place < length tunes → tune ≡ get_or tunes place tune
+    → tune.number < number → AllWithin (λ t. t.number < number) tunes 0 (place + 1)
+lesser number tunes place tune rises l is less = λ k d from below.
+    (let le = ordered 0 tunes k place d rises (omega arith) l in
+    let same : tune.number ≡ (get_or tunes place d).number = ap (λ (t : Tune). t.number) (is ∙ get_or_default tunes place tune d l) in omega arith)
 
--- where all numbers are less below a place, and greater from it on, none is equal
-pub no_place : (number : ℕ) (tunes : List Tune) (place : ℕ) → AllWithin (λ tune. nat_cmp tune.number number ≡ Less) tunes 0 place
-    → AllWithin (λ tune. nat_cmp tune.number number ≡ Greater) tunes place (length tunes)
-    → (n : ℕ) (d : Tune) → n < length tunes → (get_or tunes n d).number ≡ number → ⊥
-no_place number tunes place less greater n d l e = elim (cases_lt n place) [
-  | inl below ↦ let lower : (get_or tunes n d).number < number = ranked _ _ _ (sym (less n d (omega arith) below)) in omega arith
-  | inr from ↦ let higher : number < (get_or tunes n d).number = ranked _ _ _ (sym (greater n d from l)) in omega arith
-]
+pub not_lesser : (number : ℕ) (tunes : List Tune) (place : ℕ) (tune : Tune) → RisesFrom 0 tunes → place < length tunes → tune ≡ get_or tunes place tune
+    → number ≤ tune.number → AllWithin (λ t. number ≤ t.number) tunes place (length tunes)
+not_lesser number tunes place tune rises l is le = λ k d from to.
+    (let later = ordered 0 tunes place k d rises from to in
+    let same : tune.number ≡ (get_or tunes place d).number = ap (λ (t : Tune). t.number) (is ∙ get_or_default tunes place tune d l) in omega arith)

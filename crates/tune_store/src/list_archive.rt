@@ -1,8 +1,7 @@
 // An archive in memory.
 ghost use Rattle.std.specs.Prelude.{◌≡◌, ◌≢◌, ℕ, ◌+◌, ◌^◌, ◌<◌, ◌≤◌, ◌++◌, true, length};
 ghost use Rattle.std.specs.Prelude.{IfSome, IfNone, IfErr, IsErrOf, OnOk, OnErr};
-ghost use Rattle.std.specs.Prelude.{slice_index_or, vec_len};
-ghost use Rattle.std.specs.Vec.{vec_capacity};
+ghost use Rattle.std.specs.Prelude.{IsTrue, false, slice_index_or, vec_len};
 ghost use Rattle.tune_store.specs.State.{State, IsState, RisesFrom, empty_state};
 ghost use Rattle.tune_store.specs.TuneSteps.{numbered, moved};
 ghost use Rattle.tune_store.specs.Labels.{labels_of};
@@ -11,10 +10,12 @@ ghost use Rattle.tune_store.specs.Answers.{takes_memory};
 ghost use Rattle.tune_store.specs.Revisions.{RaisesReplaced};
 ghost use Rattle.tune_store.specs.Stores.{StorePasses};
 ghost use Rattle.tune_store.specs.declared.catalog.Label.{Label};
+ghost use Rattle.tune_store.specs.declared.tune.Tune.{Tune};
 ghost use Rattle.tune_store.specs.declared.layout.Layout.{Layout};
 ghost use Rattle.tune_store.specs.declared.command.Refusal.{Refusal};
 ghost use Rattle.tune_store.specs.Plans.{CanChange, CanChangeTo};
-ghost use Rattle.tune_store.specs.Inside.Lists.{CarriedOut, Made, IsPlaceAfter, state_with};
+ghost use Rattle.tune_store.specs.Inside.Lists.{CarriedOut, Made, IsPlaceAfter, IsPlaceFrom};
+ghost use Rattle.tune_store.specs.Inside.Lists.{state_with};
 
 use crate::catalog::{Catalog, Label, all_places};
 use crate::command::{Command, Refusal, Reply};
@@ -25,6 +26,7 @@ use crate::tune_store::TuneStore;
 use abc_fields::TuneText;
 use std::alloc::Global;
 use std::marker::Model;
+use tiered_vector::TieredVector;
 use tune_queries::Sought;
 use tune_sets::SetLists;
 
@@ -33,7 +35,7 @@ use tune_sets::SetLists;
 pub struct ListArchive {
     alloc: Global,
     layout: Layout,
-    tunes: Vec<Tune>,
+    tunes: TieredVector<Tune>,
     sets: SetLists,
 }
 
@@ -59,7 +61,7 @@ impl ListArchive {
         ListArchive {
             alloc,
             layout: Layout::One,
-            tunes: Vec::new(alloc),
+            tunes: TieredVector::new(alloc),
             sets: SetLists::new(alloc),
         }
     }
@@ -112,11 +114,11 @@ impl Catalog for ListArchive {
     ghost sets_are = { λ archive honest. refl };
 
     fn len(&self) -> usize {
-        self.tunes.as_slice().len()
+        self.tunes.len()
     }
 
     fn label(&self, place: usize) -> Label {
-        let tune = &self.tunes[place];
+        let tune = self.tunes.get(place);
         Label {
             number: tune.number,
             revision: tune.revision,
@@ -141,7 +143,7 @@ impl Catalog for ListArchive {
     }
 
     fn text(&self, place: usize) -> &TuneText {
-        &self.tunes[place].text
+        &self.tunes.get(place).text
     }
 
     fn candidates(&mut self, _sought: &Sought<'_>) -> Result<Vec<usize>, Refusal> {
@@ -149,18 +151,62 @@ impl Catalog for ListArchive {
     }
 }
 
-// The place of the tune of a number.
-fn place_of(tunes: &[Tune], number: u32) -> Option<usize>
-    requires { RisesFrom 0 tunes.now }
-    ensures within { IfSome result (λ place. place < length (labels_of tunes.now)) }
-    ensures found { IfSome result (λ place. (d : Label)
-        → (slice_index_or (labels_of tunes.now) place d).number ≡ number) }
-    ensures none { IfNone result ((place : ℕ) (d : Label) → place < length (labels_of tunes.now)
-        → (slice_index_or (labels_of tunes.now) place d).number ≢ number) }
+// The place of the first tune whose number is not below this one, or behind the last.
+fn place_from(tunes: &TieredVector<Tune>, number: u32) -> usize
+    requires { RisesFrom 0 tunes.now.items }
+    ensures { IsPlaceFrom number tunes.now.items result }
 {
-    match tunes.binary_search_by_key(&number, |tune| tune.number) {
-        Ok(place) => Some(place),
-        Err(_) => None,
+    let mut first = 0;
+    let mut last = tunes.len();
+    while first < last {
+        let middle = first + (last - first) / 2;
+        if tunes.get(middle).number < number {
+            first = middle + 1;
+        } else {
+            last = middle;
+        }
+    }
+    first
+}
+
+// Whether the tune of a number is at a place.
+fn is_at(tunes: &TieredVector<Tune>, place: usize, number: u32) -> bool
+    ensures within { IsTrue result → (place < length tunes.now.items) }
+    ensures named { IsTrue result → (d : Tune)
+        → (slice_index_or tunes.now.items place d).number ≡ number }
+    ensures other { result ≡ false → place < length tunes.now.items → (d : Tune)
+        → (slice_index_or tunes.now.items place d).number ≢ number }
+{
+    place < tunes.len() && tunes.get(place).number == number
+}
+
+// Where the tune of a number stands if no number between the first tune's and its own is free.
+fn place_without_gaps(tunes: &TieredVector<Tune>, number: u32) -> usize {
+    if tunes.len() == 0 {
+        return 0;
+    }
+    number.saturating_sub(tunes.get(0).number) as usize
+}
+
+// The place of the tune of a number.
+fn place_of(tunes: &TieredVector<Tune>, number: u32) -> Option<usize>
+    requires { RisesFrom 0 tunes.now.items }
+    ensures within { IfSome result (λ place. place < length (labels_of tunes.now.items)) }
+    ensures found { IfSome result (λ place. (d : Label)
+        → (slice_index_or (labels_of tunes.now.items) place d).number ≡ number) }
+    ensures none { IfNone result ((place : ℕ) (d : Label)
+        → place < length (labels_of tunes.now.items)
+        → (slice_index_or (labels_of tunes.now.items) place d).number ≢ number) }
+{
+    let near = place_without_gaps(tunes, number);
+    if is_at(tunes, near, number) {
+        return Some(near);
+    }
+    let place = place_from(tunes, number);
+    if is_at(tunes, place, number) {
+        Some(place)
+    } else {
+        None
     }
 }
 
@@ -197,7 +243,7 @@ impl TuneStore for ListArchive {
 // Makes the change of a plan, and gives its reply. The one refusal is out of memory.
 fn carry_out(
     layout: &mut Layout,
-    tunes: &mut Vec<Tune>,
+    tunes: &mut TieredVector<Tune>,
     sets: &mut SetLists,
     plan: Plan,
 ) -> Result<Reply, Refusal>
@@ -216,7 +262,7 @@ fn carry_out(
 // Makes a change. The error is out of memory, and everything stays then.
 fn make(
     layout: &mut Layout,
-    tunes: &mut Vec<Tune>,
+    tunes: &mut TieredVector<Tune>,
     sets: &mut SetLists,
     change: Change,
 ) -> Result<(), Refusal>
@@ -230,7 +276,9 @@ fn make(
             tunes.reserve(texts.len())?;
             add_tunes(tunes, texts, first);
         }
-        Change::Put { place, tune } => tunes[place] = tune,
+        Change::Put { place, tune } => {
+            tunes.replace(place, tune);
+        }
         Change::Take { place } => {
             tunes.remove(place);
         }
@@ -250,8 +298,8 @@ fn make(
 }
 
 // Adds tunes of these texts, with numbers from `first` on, for which there is room.
-fn add_tunes(tunes: &mut Vec<Tune>, texts: Vec<TuneText>, first: u32)
-    requires room { vec_len tunes.old + vec_len texts ≤ vec_capacity tunes.old }
+fn add_tunes(tunes: &mut TieredVector<Tune>, texts: Vec<TuneText>, first: u32)
+    requires room { length tunes.old.items + vec_len texts ≤ tunes.old.room }
     requires numbers { first + vec_len texts < 2 ^ 32 }
     ensures { tunes.new.items ≡ tunes.old.items ++ numbered first texts.items }
 {
@@ -262,13 +310,13 @@ fn add_tunes(tunes: &mut Vec<Tune>, texts: Vec<TuneText>, first: u32)
             revision: 1,
             text,
         };
-        tunes.push(tune).unwrap();
+        tunes.push(tune);
         number += 1;
     }
 }
 
 // Gives the tune of a number another one, and moves it to where that belongs.
-fn move_tune(tunes: &mut Vec<Tune>, number: u32, to: u32)
+fn move_tune(tunes: &mut TieredVector<Tune>, number: u32, to: u32)
     requires { RisesFrom 0 tunes.old.items }
     ensures { tunes.new.items ≡ moved number to tunes.old.items }
 {
@@ -276,17 +324,21 @@ fn move_tune(tunes: &mut Vec<Tune>, number: u32, to: u32)
         let mut tune = tunes.remove(place);
         tune.number = to;
         let place = place_after(tunes, to);
-        tunes.insert(place, tune).unwrap();
+        tunes.insert(place, tune);
     }
 }
 
 // The place of the first tune of a greater number, or behind the last.
-fn place_after(tunes: &[Tune], number: u32) -> usize
-    requires { RisesFrom 0 tunes.now }
-    ensures { IsPlaceAfter number tunes.now result }
+fn place_after(tunes: &TieredVector<Tune>, number: u32) -> usize
+    requires { RisesFrom 0 tunes.now.items }
+    ensures { IsPlaceAfter number tunes.now.items result }
 {
-    match tunes.binary_search_by_key(&number, |tune| tune.number) {
-        Ok(place) => place + 1,
-        Err(place) => place,
+    let place = place_from(tunes, number);
+    // For the proof: no place is above what a number may be.
+    let _count = tunes.len();
+    if is_at(tunes, place, number) {
+        place + 1
+    } else {
+        place
     }
 }

@@ -5,4 +5,4 @@ use Rattle.std.specs.Prelude.{ℕ, ◌+◌, ◌-◌, ◌%◌, nat_lt, List, [], 
 abbrev pub slot_of : List ℕ → ℕ → ℕ
 slot_of [] place = place
 slot_of (turn ∷ turns) place =
-    cond (nat_lt place 256) ((turn + place) % 256) (256 + slot_of turns (place - 256))
+    cond (nat_lt place 1023) ((turn + place) % 1023) (1023 + slot_of turns (place - 1023))

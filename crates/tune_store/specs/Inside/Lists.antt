@@ -29,6 +29,12 @@ Made old change (Ok done) new = new ≡ changed change old
 Made old change (Err refusal) new =
     (refusal ≡ OutOfMemory) × (new ≡ old) × (grows (Some change) ≡ true)
 
+-- the place of the first tune whose number is not below this one, or behind the last
+pub record IsPlaceFrom (number : ℕ) (tunes : List Tune) (place : ℕ) : Type 0 where
+  pub within : place ≤ length tunes
+  pub before : AllWithin (λ tune. tune.number < number) tunes 0 place
+  pub behind : AllWithin (λ tune. number ≤ tune.number) tunes place (length tunes)
+
 -- the place of the first tune of a greater number, or behind the last
 pub record IsPlaceAfter (number : ℕ) (tunes : List Tune) (place : ℕ) : Type 0 where
   pub within : place ≤ length tunes

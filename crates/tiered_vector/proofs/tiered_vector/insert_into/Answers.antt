@@ -10,12 +10,12 @@ returns-then-place-most-clause-items g c =
     let turns = c.args.turns.now in
     let put = rw c.unwrap.ensures at c.insert.ensures.items in
     ap (λ xs. tiered turns xs) put
-    ∙ come_from_behind turns c.args.items.now.items (length turns * 256) (omega arith) (omega arith) c.args.place c.args.item (omega arith) (omega arith)
+    ∙ come_from_behind turns c.args.items.now.items (length turns * 1023) (omega arith) (omega arith) c.args.place c.args.item (omega arith) (omega arith)
 
 pub returns-clause-items : goal.returns-clause-items
 returns-clause-items g c =
     let turns = c.args.turns.now in
-    let most : ℕ = length turns * 256 in
+    let most : ℕ = length turns * 1023 in
     let rings = c.split_at_mut-rings.result.0.now in
     let rest = c.split_at_mut-rings.result.1.now in
     let made = c.put_in-last.new.rings in

@@ -6,4 +6,4 @@ pub returns-then-ring-turns : goal.returns-then-ring-turns
 returns-then-ring-turns c = the_slot_behind c.args.turns.now c.args.place (omega arith)
 
 pub returns : goal.returns
-returns c = the_slot c.args.turns.now (c.args.place / 256) (c.args.place % 256) c.args.place (omega arith) (omega arith) (omega arith)
+returns c = the_slot c.args.turns.now (c.args.place / 1023) (c.args.place % 1023) c.args.place (omega arith) (omega arith) (omega arith)

@@ -1,5 +1,4 @@
 use Rattle.std.proofs.Common.{◌≡◌, ◌+◌, ◌≤◌, ◌++◌, length}
-use Rattle.std.specs.Vec.{vec_capacity}
 use Rattle.std.specs.Vec.Iter.{into_iter_items}
 use Rattle.tune_store.specs.TuneSteps.{numbered}
 use Rattle.tune_store.proofs.list_archive.add_tunes.Given as goal
@@ -8,6 +7,6 @@ abbrev pub invariant-loop-text : goal.invariant-loop-text
 invariant-loop-text l = record {
   items : l.tunes.items ≡ l.fn.tunes.items ++ numbered l.first l.yielded;
   number : l.number ≡ l.first + length l.yielded;
-  capacity : vec_capacity l.fn.tunes ≤ vec_capacity l.tunes;
+  room : l.fn.tunes.room ≤ l.tunes.room;
   left : l.yielded ++ into_iter_items l.text-iterator ≡ l.fn.texts.items;
 }

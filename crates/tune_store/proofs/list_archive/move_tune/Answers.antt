@@ -1,4 +1,4 @@
-use Rattle.std.proofs.Common.{◌≡◌, ◌<◌, length, refl, ap, sym, ◌∙◌, arith, rules}
+use Rattle.std.proofs.Common.{◌<◌, length, refl, ap, sym, ◌∙◌, arith}
 use Rattle.std.specs.List.{insert}
 use Rattle.tune_store.specs.Labels.{labels_of}
 use Rattle.tune_store.specs.declared.tune.Tune.{Tune}
@@ -9,28 +9,24 @@ use Rattle.tune_store.proofs.list_archive.move_tune.Goals as goal
 pub place_after-place-requires : goal.place_after-place-requires
 place_after-place-requires c =
     let tunes = c.args.tunes.now.items in
-    let within : c.in-Some.place < length (labels_of tunes) = rw c.deref.ensures.value at c.in-Some.ensures.within in
-    let found = rw c.deref.ensures.value at c.in-Some.ensures.found in
+    let within = c.in-Some.ensures.within in
     let l : c.in-Some.place < length tunes = omega (arith, labels_long tunes (labels_of tunes) refl) in
     let tune = c.remove-tune.result in
-    rw (c.deref-in-Some.ensures.value, c.remove-tune.ensures.items)
-    (rises-taken c.args.number tunes c.in-Some.place tune c.requires l (number_of_label c.args.number tunes c.in-Some.place within found tune))
+    rw c.remove-tune.ensures.items
+    (rises-taken c.args.number tunes c.in-Some.place tune c.requires l
+    (number_of_label c.args.number tunes c.in-Some.place within c.in-Some.ensures.found tune))
 
 pub returns-in-Some : goal.returns-in-Some
 returns-in-Some c =
     let tunes = c.args.tunes.now.items in
-    let within : c.in-Some.place < length (labels_of tunes) = rw c.deref.ensures.value at c.in-Some.ensures.within in
-    let found = rw c.deref.ensures.value at c.in-Some.ensures.found in
+    let within = c.in-Some.ensures.within in
     let l : c.in-Some.place < length tunes = omega (arith, labels_long tunes (labels_of tunes) refl) in
     let tune = c.remove-tune.result in
-    let after = rw (c.deref-in-Some.ensures.value, c.remove-tune.ensures.items) at c.place_after-place.ensures in
+    let after = rw c.remove-tune.ensures.items at c.place_after-place.ensures in
     let new : Tune = record { number = c.args.to; revision = tune.revision; text = tune.text } in
-    let put : c.insert.new.self.items ≡ insert c.remove-tune.new.self.items c.place_after-place.result new = search rules in
-    put ∙ ap (λ ts. insert ts c.place_after-place.result new) c.remove-tune.ensures.items
+    c.insert.ensures.items ∙ ap (λ ts. insert ts c.place_after-place.result new) c.remove-tune.ensures.items
     ∙ sym (moves_by c.args.number c.args.to tunes c.in-Some.place c.place_after-place.result tune c.requires l
-    (number_of_label c.args.number tunes c.in-Some.place within found) c.remove-tune.ensures.value after)
+    (number_of_label c.args.number tunes c.in-Some.place within c.in-Some.ensures.found) c.remove-tune.ensures.gone after)
 
 pub returns-in_default : goal.returns-in_default
-returns-in_default c =
-    let none = rw c.deref.ensures.value at c.in_default.ensures.none in
-    rw (place_none c.args.number c.args.tunes.now.items _ refl none) refl
+returns-in_default c = rw (place_none c.args.number c.args.tunes.now.items _ refl c.in_default.ensures.none) refl

@@ -1,22 +1,12 @@
-use Rattle.std.proofs.Common.{ℕ, sym}
-use Rattle.std.specs.Cmp.{ranked}
-use Rattle.std.proofs.lemmas.Fn.{always_returns_same}
-use Rattle.tune_store.specs.declared.tune.Tune.{Tune}
-use Rattle.tune_store.proofs.PlaceLemmas.{ordered, cmp_rises}
 use Rattle.tune_store.proofs.InsertLemmas.{place_behind, place_between}
 use Rattle.tune_store.proofs.list_archive.place_after.Goals as goal
-use Rattle.std.proofs.Common.{rules}
 
-pub returns-in-Ok : goal.returns-in-Ok
-returns-in-Ok c =
-    let key : Tune → ℕ = λ tune. tune.number in
-    let equal = c.in-Ok.ensures.position key (always_returns_same _ _ _ (λ a r f' k. (search rules, search rules))) in
-    place_behind c.args.number c.args.tunes.now c.in-Ok.place c.requires c.in-Ok.ensures.bound (λ e. ranked _ _ _ (sym (equal e)))
+pub returns-then-is_at : goal.returns-then-is_at
+returns-then-is_at c =
+    place_behind c.args.number c.args.tunes.now.items c.place_from-place.result c.requires (c.is_at.ensures.within c.if-is_at.true)
+    (c.is_at.ensures.named c.if-is_at.true)
 
-pub returns-in-Err : goal.returns-in-Err
-returns-in-Err c =
-    let key : Tune → ℕ = λ tune. tune.number in
-    let parts =
-    c.in-Err.ensures.position key (always_returns_same _ _ _ (λ a r f' k. (search rules, search rules)))
-    (λ i j d le l. cmp_rises _ _ _ (ordered 0 c.args.tunes.now i j d c.requires le l)) in
-    place_between c.args.number c.args.tunes.now c.in-Err.place c.in-Err.ensures.bound parts.0 parts.1
+pub returns-else-is_at : goal.returns-else-is_at
+returns-else-is_at c =
+    place_between c.args.number c.args.tunes.now.items c.place_from-place.result c.requires c.place_from-place.ensures
+    (c.is_at.ensures.other c.if-is_at.false)

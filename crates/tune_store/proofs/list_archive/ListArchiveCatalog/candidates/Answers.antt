@@ -11,7 +11,7 @@ returns c =
     let count = c.len.result in
     let items = c.in_ok-all_places.ensures in
     let many = labels_long tunes (labels_of tunes) refl in
-    let whole : count ≡ length tunes = omega (arith, c.len.ensures, c.self.inside.tunes.ok.0, ap (λ (s : State). length s.tunes) c.self.view_is) in
+    let whole : count ≡ length tunes = omega (arith, c.len.ensures, ap (λ (s : State). length s.tunes) c.self.view_is) in
     let fits : 0 + count ≤ length (labels_of tunes) = omega (arith, many, whole) in (
       refl,
       rw items (range_rises 0 count _ fits),

@@ -1,7 +1,7 @@
 use Rattle.std.proofs.Common.{length, get_or, take, arith, ap, sym, ◌∙◌}
 use Rattle.tiered_vector.proofs.Held.{enough_held, length_held}
 use Rattle.tiered_vector.proofs.Slots.{item_at, slot_within}
-use Rattle.tiered_vector.proofs.tiered_vector.TieredVector.at.Goals as goal
+use Rattle.tiered_vector.proofs.tiered_vector.TieredVector.get.Goals as goal
 
 pub index-requires : goal.index-requires
 index-requires g c =
