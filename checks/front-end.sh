@@ -631,7 +631,9 @@ cases_of_sets() {
     run set saturday
     refused 1 'no such set list'
     run delete 3
-    refused 1 'the set list friday has it'
+    refused 1 'tune 3: the set list friday has it'
+    run delete 4 3
+    refused 1 'tune 3: the set list friday has it'
     run undo
     done_with 'friday is as it was'
     run set friday
@@ -917,7 +919,7 @@ tunes 16 to 17 are out again'
     contents tunes.abcx > held
     cp tunes.abcx.old.abc held.old.abc
     run undo
-    refused 1 'the set list x has it'
+    refused 1 'tune 16: the set list x has it'
     contents tunes.abcx > found
     same found held
     same tunes.abcx.old.abc held.old.abc

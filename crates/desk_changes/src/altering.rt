@@ -8,6 +8,7 @@ ghost use Rattle.desk_changes.specs.ChangedFiles.{ChangesFile};
 ghost use Rattle.desk_changes.specs.Inside.Turning.{Alters, AltersFile};
 ghost use Rattle.desk_changes.specs.Kinds.{kind_of};
 
+use crate::held_tunes::held_number;
 use crate::turning::carry;
 use crate::words::{Unchanged, say_unchanged};
 use desk_scenes::{DONE, open_once};
@@ -17,6 +18,7 @@ use tune_archive::Archive;
 use tune_changes::planned;
 use tune_desk::Desk;
 use tune_disk::{Access, Disk};
+use tune_store::{Catalog, Refusal};
 use tune_undo::EntryKind;
 
 /// Changes what FILE holds, and gives the status: 0 done; 1 refused, or a device failed; 3 no
@@ -90,7 +92,25 @@ fn alter_archive<D: Disk, K: AllocGlobal + Desk<Disk = D>>(
 {
     match planned(desk.alloc(), archive, change) {
         Ok(turns) => carry(desk, file, archive, kind_of(change), turns.as_slice()),
-        Err(refusal) => Err(Unchanged::Refused(refusal)),
+        Err(refusal) => Err(why_unchanged(archive, change, refusal)),
+    }
+}
+
+// With the tune that a set list has, where that is why.
+fn why_unchanged<D: Disk>(
+    archive: &Archive<D>,
+    change: &Alteration,
+    refusal: Refusal,
+) -> Unchanged {
+    let Alteration::Delete(numbers) = change else {
+        return Unchanged::Refused(refusal);
+    };
+    let Refusal::InSet { name } = refusal else {
+        return Unchanged::Refused(refusal);
+    };
+    match held_number(archive.sets().as_slice(), &name, numbers.as_slice()) {
+        Some(number) => Unchanged::Held(number, name),
+        None => Unchanged::Refused(refusal),
     }
 }
 

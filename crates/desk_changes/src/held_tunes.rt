@@ -5,21 +5,51 @@ ghost use Rattle.desk_changes.specs.Inside.HeldTunes.{brings_set, brings_tune, h
 ghost use Rattle.desk_changes.specs.Inside.HeldTunes.{have_turned, holds_back};
 ghost use Rattle.desk_changes.specs.Inside.TriedUndoings.{steps_of};
 
+use crate::words::NotUndone;
 use tune_sets::{SetName, TuneSet};
 use tune_store::Refusal;
 use tune_undo::{Part, Step};
 
+/// The first of these numbers that a place of the set list of a name has.
+pub(crate) fn held_number(sets: &[TuneSet], name: &SetName, numbers: &[u32]) -> Option<u32> {
+    for set in sets {
+        if set.name.as_slice() == name.as_slice() {
+            return first_among(numbers, set.numbers.as_slice());
+        }
+    }
+    None
+}
+
+fn first_among(numbers: &[u32], others: &[u32]) -> Option<u32> {
+    for number in numbers {
+        if others.iter().any(|other| *other == *number) {
+            return Some(*number);
+        }
+    }
+    None
+}
+
 /// Refused where a set list has a tune that these entries brought, and is not itself one that they
 /// turned: such a tune cannot go, and so nothing is taken back.
-pub(crate) fn spare_held(sets: &[TuneSet], changes: &[Step]) -> Result<(), Refusal>
+pub(crate) fn spare_held(sets: &[TuneSet], changes: &[Step]) -> Result<(), NotUndone>
     ensures { IfOk result (λ _. list_any (holds_back (steps_of changes.now)) sets.now ≡ false) }
 {
     for set in sets {
         if holds_back(changes, set) {
-            return Err(Refusal::InSet { name: set.name });
+            return Err(why_held(changes, set));
         }
     }
     Ok(())
+}
+
+// With the first tune of the set list that these entries brought.
+fn why_held(changes: &[Step], set: &TuneSet) -> NotUndone {
+    for number in set.numbers.as_slice() {
+        if have_brought(changes, *number) {
+            return NotUndone::Held(*number, set.name);
+        }
+    }
+    NotUndone::Refused(Refusal::InSet { name: set.name })
 }
 
 fn holds_back(changes: &[Step], set: &TuneSet) -> bool

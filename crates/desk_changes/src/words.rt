@@ -1,7 +1,9 @@
 // Why nothing was changed, in words.
 ghost use Rattle.std.specs.Prelude.{◌≢◌};
 
-use desk_scenes::{REFUSED, Unopened, say_refusal, say_unkept, say_unopened_to_change};
+use desk_scenes::{
+    REFUSED, Unopened, say_held_tune, say_refusal, say_unkept, say_unopened_to_change,
+};
 use std::alloc::AllocError;
 use std::io::Write;
 use tune_desk::{DeskFault, OldTextsFault};
@@ -15,6 +17,8 @@ pub(crate) enum Unchanged {
     Unopened(Unopened),
     /// The archive refused it.
     Refused(Refusal),
+    /// The set list of this name has the tune of this number, which was to go.
+    Held(u32, SetName),
     /// Its entry was not kept.
     Unkept(OldTextsFault),
 }
@@ -27,6 +31,10 @@ pub(crate) fn say_unchanged<E: Write>(errors: &mut E, file: &str, what: &str, wh
         Unchanged::Unopened(why) => say_unopened_to_change(errors, file, *why),
         Unchanged::Refused(refusal) => {
             say_refusal(errors, file, what, refusal);
+            REFUSED
+        }
+        Unchanged::Held(number, name) => {
+            say_held_tune(errors, *number, name);
             REFUSED
         }
         Unchanged::Unkept(why) => {
@@ -51,6 +59,8 @@ pub(crate) enum NotUndone {
     ChangedTune(u32),
     /// The set list of this name was.
     ChangedSet(SetName),
+    /// The set list of this name has the tune of this number, which would be out again.
+    Held(u32, SetName),
     /// The archive refused it.
     Refused(Refusal),
     /// An entry or a mark was not kept.
@@ -114,6 +124,7 @@ pub(crate) fn say_not_undone<E: Write>(errors: &mut E, file: &str, why: &NotUndo
                  was\n"
             );
         }
+        NotUndone::Held(number, name) => say_held_tune(errors, *number, name),
         NotUndone::Refused(refusal) => say_refusal(errors, file, "undo", refusal),
         NotUndone::Unkept(why) => say_unkept(errors, file, *why),
         NotUndone::OutOfMemory => say_refusal(errors, file, "undo", &Refusal::OutOfMemory),

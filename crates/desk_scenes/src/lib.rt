@@ -17,8 +17,8 @@ pub use kept_entries::{keep_entry, keep_mark};
 pub use printing::{print, print_counts};
 pub use progress::Progress;
 pub use reasons::{
-    BAD_WORDS, DONE, REFUSED, desk_reason, say, say_refusal, say_unanswered, say_unkept,
-    say_unopened, say_unopened_to_change, say_unwritten,
+    BAD_WORDS, DONE, REFUSED, desk_reason, say, say_held_tune, say_refusal, say_unanswered,
+    say_unkept, say_unopened, say_unopened_to_change, say_unwritten,
 };
 pub use result_files::write_file;
 pub use unanswered::Unanswered;

@@ -151,9 +151,20 @@ fn say_bad_tune<E: Write>(errors: &mut E, what: &str, place: usize, fault: TuneF
     };
 }
 
+/// Says that a set list has the tune of a number, which is to go.
+pub fn say_held_tune<E: Write>(errors: &mut E, number: u32, name: &SetName) {
+    let _ = write!(errors, "tunes-book: tune {number}: the set list ");
+    say_held_by(errors, name);
+    let _ = errors.flush();
+}
+
 // A set list names the tune.
 fn say_held<E: Write>(errors: &mut E, what: &str, name: &SetName) {
     let _ = write!(errors, "tunes-book: {what}: the set list ");
+    say_held_by(errors, name);
+}
+
+fn say_held_by<E: Write>(errors: &mut E, name: &SetName) {
     let _ = errors.write_all(name.as_slice());
     let _ = errors.write_all(b" has it; `tunes-book set ");
     let _ = errors.write_all(name.as_slice());
