@@ -15,8 +15,8 @@ from broken_runs import (COPY, DONE, FILE, NOT_YET, OLD, REFUSED, Contents, Ende
                          write_all)
 
 BUSY = re.compile(rb'another program|is there|there is such a file')
-# What two of these orders make beside FILE has one name, for which neither waits.
-MAKES_NEW = re.compile(rb'\.new is there')
+# What one that waited may say: it finds that what it was to make is made.
+MADE = re.compile(rb'made by another program meanwhile')
 ASIDE = re.compile(r'.*\.[1-9][0-9]*\.old')
 NOBODY = 65534
 
@@ -108,7 +108,8 @@ class Beside:
     def judge(self, pair, both, wait):
         """What is wrong with two orders that ran at once, by `Lost`."""
         done = [name for name, ended in zip(pair, both) if ended.status == DONE]
-        for name, ended, words in zip(pair, both, (BUSY, MAKES_NEW if wait else BUSY)):
+        for name, ended, waits in zip(pair, both, (False, wait)):
+            words = MADE if waits else BUSY
             if ended.status not in (DONE, REFUSED) or ended.status and not words.search(ended.said):
                 raise Lost(f'`{name}` ends with {ended.status}: {told(ended)}')
         if not done:

@@ -6,6 +6,7 @@ that is wrong and ends with 1, or prints one line and ends with 0. Wrong is
 
 - a file name that stands in src/ or in specs/ of two crates, but for Lib, Laws, Limits and Main;
 - a public type of that name in two files of src/, or a record of that name in two files of specs/;
+- a public definition of that name in specs/ of two crates, those of tests among them;
 - a public type that docs/GLOSSARY.md does not name in a code span.
 
 The names that stand twice today are in checks/data/names.txt: what it is, the name, and where. The
@@ -24,6 +25,8 @@ KNOWN = 'checks/data/names.txt'
 EVERYWHERE = {'lib', 'laws', 'limits', 'main', 'inside'}
 TYPE = re.compile(r'^pub (?:struct|enum|trait) (\w+)', re.M)
 RECORD = re.compile(r'^(?:abbrev |unfoldable )?(?:pub )?(?:record|data) ([^\s:({]+)', re.M)
+DEFINITION = re.compile(
+    r'^(?:abbrev |unfoldable )?pub (?:record |data )?(?!mod |use )([^\s:({]+)', re.M)
 
 
 def read(path):
@@ -31,10 +34,14 @@ def read(path):
         return file.read()
 
 
+def crate_of(path):
+    return path.split('/')[1]
+
+
 def paths(inner):
     """The files of this kind, of all crates but tests and benches."""
     for path in sorted(glob.glob(f'crates/*/{inner}', recursive=True)):
-        if not path.split('/')[1].startswith(('test_', 'benches')):
+        if not crate_of(path).startswith(('test_', 'benches')):
             yield path
 
 
@@ -50,13 +57,19 @@ def files_in(inner):
     for path in paths(inner):
         name = os.path.splitext(os.path.basename(path))[0]
         if name.lower() not in EVERYWHERE:
-            yield name, path.split('/')[1]
+            yield name, crate_of(path)
 
 
 def named_in(inner, form):
     for path in paths(inner):
         for name in form.findall(read(path)):
             yield name, path[len('crates/'):]
+
+
+def defined():
+    for path in sorted(glob.glob('crates/*/specs/**/*.antt', recursive=True)):
+        for name in DEFINITION.findall(read(path)):
+            yield name, crate_of(path)
 
 
 def found():
@@ -66,6 +79,7 @@ def found():
         'definitions': files_in('specs/**/*.antt'),
         'type': named_in('src/**/*.rt', TYPE),
         'record': named_in('specs/**/*.antt', RECORD),
+        'definition': defined(),
     }
     return {(kind, name): places for kind, named in kinds.items()
             for name, places in twice(named).items()}

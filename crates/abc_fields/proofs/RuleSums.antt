@@ -7,7 +7,7 @@ use Rattle.abc_fields.specs.Bytes.{line_feed}
 use Rattle.abc_fields.specs.Limits.{longest_book}
 use Rattle.abc_fields.specs.Tunes.{joined}
 use Rattle.abc_fields.specs.FileHeaders.{carries}
-use Rattle.abc_fields.specs.Inside.HeaderRows.{HeaderRow, row_list, rows_with, taken, AreSums, AreByteRows, IsByteRule, sum_carried, sum_all}
+use Rattle.abc_fields.specs.Inside.HeaderRows.{HeaderRow, row_list, rows_with, taken_lines, AreSums, AreByteRows, IsByteRule, sum_carried, sum_all}
 use Rattle.abc_fields.specs.declared.carry_rules.CarryRule.{CarryRule}
 use Rattle.abc_fields.specs.declared.carry_rules.CarryRule.TheVariants.{Never, Always, Unless}
 use Rattle.abc_fields.specs.declared.file_header.RuleSum.{RuleSum}
@@ -70,18 +70,18 @@ abbrev pub one_if : Bool → List ℕ → List (List ℕ)
 one_if is line = cond is (line ∷ []) []
 
 taken-push : (owns : ℕ → Bool) (rows : List HeaderRow) (row : HeaderRow)
-    → taken owns (rows ++ row ∷ []) ≡ taken owns rows ++ one_if (carries owns row.rule) row.text
+    → taken_lines owns (rows ++ row ∷ []) ≡ taken_lines owns rows ++ one_if (carries owns row.rule) row.text
 taken-push owns [] row = refl
 taken-push owns (first ∷ rows) row =
-    cond_both (carries owns first.rule) (first.text ∷ taken owns (rows ++ row ∷ [])) (taken owns (rows ++ row ∷ []))
-    (λ all. all ≡ cond (carries owns first.rule) (first.text ∷ taken owns rows) (taken owns rows) ++ one_if (carries owns row.rule) row.text)
+    cond_both (carries owns first.rule) (first.text ∷ taken_lines owns (rows ++ row ∷ [])) (taken_lines owns (rows ++ row ∷ []))
+    (λ all. all ≡ cond (carries owns first.rule) (first.text ∷ taken_lines owns rows) (taken_lines owns rows) ++ one_if (carries owns row.rule) row.text)
     (λ is. rw is (ap (λ ls. first.text ∷ ls) (taken-push owns rows row)))
     (λ no. rw no (taken-push owns rows row))
 
 -- one more row, unless no tune carries it
 pub taken-with : (owns : ℕ → Bool) (rows : List HeaderRow) (rule : CarryRule) (line : List ℕ)
-    → taken owns (rows_with rows rule line) ≡ taken owns rows ++ one_if (carries owns rule) line
-taken-with owns rows Never line = sym (append-nil (taken owns rows))
+    → taken_lines owns (rows_with rows rule line) ≡ taken_lines owns rows ++ one_if (carries owns rule) line
+taken-with owns rows Never line = sym (append-nil (taken_lines owns rows))
 taken-with owns rows Always line = taken-push owns rows (record { rule = Always; text = line })
 taken-with owns rows (Unless letter) line = taken-push owns rows (record { rule = Unless letter; text = line })
 
@@ -98,12 +98,12 @@ one_length true line = omega (arith, joined-length line [])
 one_length false line = refl
 
 taken_length : (owns : ℕ → Bool) (rows : List HeaderRow) (rule : CarryRule) (line : List ℕ)
-    → length (joined (taken owns (rows_with rows rule line))) ≡ length (joined (taken owns rows)) + bytes_if owns rule (length line + 1)
+    → length (joined (taken_lines owns (rows_with rows rule line))) ≡ length (joined (taken_lines owns rows)) + bytes_if owns rule (length line + 1)
 taken_length owns rows rule line =
     ap (λ ls. length (joined ls)) (taken-with owns rows rule line)
-    ∙ ap length (joined-append (taken owns rows) (one_if (carries owns rule) line))
-    ∙ length-append (joined (taken owns rows)) (joined (one_if (carries owns rule) line))
-    ∙ ap (λ n. length (joined (taken owns rows)) + n) (one_length (carries owns rule) line)
+    ∙ ap length (joined-append (taken_lines owns rows) (one_if (carries owns rule) line))
+    ∙ length-append (joined (taken_lines owns rows)) (joined (one_if (carries owns rule) line))
+    ∙ ap (λ n. length (joined (taken_lines owns rows)) + n) (one_length (carries owns rule) line)
 
 each_row-push : (rows : List HeaderRow) (row : HeaderRow) → AreByteRows rows → IsByteRule row.rule → AreByteRows (rows ++ row ∷ [])
 each_row-push [] row each is = (is, tt)

@@ -12,8 +12,8 @@ use Rattle.std.proofs.Math.Seq.{take-append-add, drop-append-add}
 use Rattle.abc_fields.specs.Bytes.{line_feed}
 use Rattle.abc_fields.specs.Tunes.{joined}
 use Rattle.abc_fields.specs.FileHeaders.{carries}
-use Rattle.abc_fields.specs.Inside.HeaderRows.{HeaderRow, row_list, taken}
-use Rattle.abc_fields.specs.Inside.Shares.{RuleLines, with_line, same_rule, texts_by, marks_by, AreOf, AreApart, rules_of, AreShares}
+use Rattle.abc_fields.specs.Inside.HeaderRows.{HeaderRow, row_list, taken_lines}
+use Rattle.abc_fields.specs.Inside.Shares.{RuleLines, with_line, same_rule, texts_by, marks_by, AreOf, AreDistinctRules, rules_of, AreShares}
 use Rattle.abc_fields.specs.Inside.Shares.{run_count, run_length, lines_from, StartFrom, StartAt, IsFirstAt, IsFirst}
 use Rattle.abc_fields.specs.declared.carry_rules.CarryRule.{CarryRule}
 use Rattle.abc_fields.specs.declared.carry_rules.CarryRule.TheVariants.{Never, Always, Unless}
@@ -63,10 +63,11 @@ pub texts_other : (rule : CarryRule) (row : HeaderRow) (rows : List HeaderRow) �
     → texts_by rule (row ∷ rows) ≡ texts_by rule rows
 texts_other rule row rows is = rw is refl
 
-taken_is : (owns : ℕ → Bool) (row : HeaderRow) (rows : List HeaderRow) → carries owns row.rule ≡ true → taken owns (row ∷ rows) ≡ row.text ∷ taken owns rows
+taken_is : (owns : ℕ → Bool) (row : HeaderRow) (rows : List HeaderRow) → carries owns row.rule ≡ true → taken_lines owns (row ∷ rows) ≡ row.text
+    ∷ taken_lines owns rows
 taken_is owns row rows is = rw is refl
 
-taken_not : (owns : ℕ → Bool) (row : HeaderRow) (rows : List HeaderRow) → carries owns row.rule ≡ false → taken owns (row ∷ rows) ≡ taken owns rows
+taken_not : (owns : ℕ → Bool) (row : HeaderRow) (rows : List HeaderRow) → carries owns row.rule ≡ false → taken_lines owns (row ∷ rows) ≡ taken_lines owns rows
 taken_not owns row rows is = rw is refl
 
 -- marks from a place on, where no row before it has the rule
@@ -90,7 +91,8 @@ run_more limit mark marks below = let before = lt-ltb mark.place limit below in 
 pub record IsAdvanced (owns : ℕ → Bool) (rule : CarryRule) (limit place : ℕ) (rows : List HeaderRow) : Type 0 where
   pub at : ℕ
   pub later : List HeaderRow
-  pub bytes : take (run_length limit (marks_by rule place rows)) (joined (texts_by rule rows)) ++ joined (taken owns later) ≡ joined (taken owns rows)
+  pub bytes : take (run_length limit (marks_by rule place rows)) (joined (texts_by rule rows)) ++ joined (taken_lines owns later)
+      ≡ joined (taken_lines owns rows)
   pub own_marks : drop (run_count limit (marks_by rule place rows)) (marks_by rule place rows) ≡ marks_by rule at later
   pub own_bytes : drop (run_length limit (marks_by rule place rows)) (joined (texts_by rule rows)) ≡ joined (texts_by rule later)
   pub other_marks : (other : CarryRule) → carries owns other ≡ true → same_rule rule other ≡ false → marks_by other place rows ≡ marks_by other at later
@@ -137,7 +139,8 @@ advance_same owns rule limit place row rows is carried below to =
       at = to.at;
       later = to.later;
       bytes = rw (size, texts, take-append-add front (joined (texts_by rule rows)) (run_length limit marks), taken_is owns row rows taken_row)
-          (append_assoc front (take (run_length limit marks) (joined (texts_by rule rows))) (joined (taken owns to.later)) ∙ ap (λ t. front ++ t) to.bytes);
+          (append_assoc front (take (run_length limit marks) (joined (texts_by rule rows))) (joined (taken_lines owns to.later))
+          ∙ ap (λ t. front ++ t) to.bytes);
       own_marks = rw (count, own) to.own_marks;
       own_bytes = rw (size, texts, drop-append-add front (joined (texts_by rule rows)) (run_length limit marks)) to.own_bytes;
       other_marks = λ other on differ. marks_other other place row rows (other_row other differ) ∙ to.other_marks other on differ;
@@ -377,7 +380,7 @@ keep_all P Q rule (lines ∷ shares) each apart keeps = (keeps lines each.0 apar
 
 -- one of them changes, and what holds of the others is told by their rules
 each_set : (P Q : RuleLines → Type 0) (shares : List RuleLines) (index : ℕ) (none lines : RuleLines) → AllByRecursion P shares
-    → AreApart (rules_of shares) → index < length shares
+    → AreDistinctRules (rules_of shares) → index < length shares
     → ((other : RuleLines) → P other → same_rule (get_or shares index none).rule other.rule ≡ false → Q other) → Q lines
     → AllByRecursion Q (set shares index lines)
 each_set P Q [] index none lines each apart within keeps is = absurd (omega arith)
@@ -407,8 +410,8 @@ any_none : (rules : List CarryRule) (rule : CarryRule) → AllByRecursion (λ ot
 any_none [] rule each = refl
 any_none (other ∷ rules) rule each = rw (rule_back other rule each.0, any_none rules rule each.1) refl
 
-apart_push : (rules : List CarryRule) (rule : CarryRule) → AreApart rules → AllByRecursion (λ other. same_rule other rule ≡ false) rules
-    → AreApart (rules ++ rule ∷ [])
+apart_push : (rules : List CarryRule) (rule : CarryRule) → AreDistinctRules rules → AllByRecursion (λ other. same_rule other rule ≡ false) rules
+    → AreDistinctRules (rules ++ rule ∷ [])
 apart_push [] rule apart each = (tt, tt)
 apart_push (first ∷ rules) rule apart each =
     (all_push (λ other. same_rule first other ≡ false) rules rule apart.0 each.0, apart_push rules rule apart.1 each.1)
@@ -436,7 +439,7 @@ add_empty rows shares rule none are =
       each = all_push (AreOf 0 rows) shares lines are.each
           (record { marks = sym empty; bytes = ap joined (sym (no_texts rule 0 rows empty)) });
       tested = subst P (sym rules) (all_push (λ r. true ≡ true) (rules_of shares) rule are.tested refl);
-      apart = subst AreApart (sym rules) (apart_push (rules_of shares) rule are.apart others);
+      apart = subst AreDistinctRules (sym rules) (apart_push (rules_of shares) rule are.apart others);
       all = λ other is. elim (are.all other is) [
         | inl any ↦ inl (ap (list_any (same_rule other)) rules ∙ list_any-append (same_rule other) (rules_of shares) (rule ∷ [])
             ∙ or_left (list_any (same_rule other) (rules_of shares)) (list_any (same_rule other) (rule ∷ [])) any)
@@ -519,7 +522,7 @@ add_row rows row shares index place none within same here are =
                 ∙ ap joined (sym (texts_push_same lines.rule rows row own));
           });
       tested = subst P (sym rules) are.tested;
-      apart = subst AreApart (sym rules) are.apart;
+      apart = subst AreDistinctRules (sym rules) are.apart;
       all = λ rule is. elim (cases_Bool (same_rule rule row.rule)) [
         | inl it ↦ inl (ap (list_any (same_rule rule)) rules
             ∙ any_at rule shares index none within (subst (λ r. same_rule rule r ≡ true) (sym same) it))
@@ -567,12 +570,12 @@ tested_chosen test (lines ∷ shares) = elim (cases_Bool (test lines.rule)) [
   | inr is ↦ subst (λ ss. AllByRecursion (λ rule. test rule ≡ true) (rules_of ss)) (sym (chosen_not test lines shares is)) (tested_chosen test shares)
 ]
 
-apart_chosen : (test : CarryRule → Bool) (shares : List RuleLines) → AreApart (rules_of shares) → AreApart (rules_of (chosen test shares))
+apart_chosen : (test : CarryRule → Bool) (shares : List RuleLines) → AreDistinctRules (rules_of shares) → AreDistinctRules (rules_of (chosen test shares))
 apart_chosen test [] apart = tt
 apart_chosen test (lines ∷ shares) apart = elim (cases_Bool (test lines.rule)) [
-  | inl is ↦ subst (λ ss. AreApart (rules_of ss)) (sym (chosen_is test lines shares is))
+  | inl is ↦ subst (λ ss. AreDistinctRules (rules_of ss)) (sym (chosen_is test lines shares is))
       (rules_chosen (λ other. same_rule lines.rule other ≡ false) test shares apart.0, apart_chosen test shares apart.1)
-  | inr is ↦ subst (λ ss. AreApart (rules_of ss)) (sym (chosen_not test lines shares is)) (apart_chosen test shares apart.1)
+  | inr is ↦ subst (λ ss. AreDistinctRules (rules_of ss)) (sym (chosen_not test lines shares is)) (apart_chosen test shares apart.1)
 ]
 
 any_chosen : (test : CarryRule → Bool) (rule : CarryRule) (shares : List RuleLines) → test rule ≡ true
@@ -612,12 +615,12 @@ pub record AreLeft (owns : ℕ → Bool) (shares : List RuleLines) (bytes : List
   pub at : ℕ
   pub rows : List HeaderRow
   pub are : AreShares (carries owns) at rows shares
-  pub whole : joined (taken owns rows) ≡ bytes
+  pub whole : joined (taken_lines owns rows) ≡ bytes
 
 -- each line that is left has the rule, or no line has another that the tune carries
 taken_alone : (owns : ℕ → Bool) (rule : CarryRule) (place : ℕ) (rows : List HeaderRow) → carries owns rule ≡ true
     → ((other : CarryRule) → carries owns other ≡ true → same_rule rule other ≡ false → marks_by other place rows ≡ [])
-    → taken owns rows ≡ texts_by rule rows
+    → taken_lines owns rows ≡ texts_by rule rows
 taken_alone owns rule place [] carried none = refl
 taken_alone owns rule place (row ∷ rows) carried none =
     let later = taken_alone owns rule (place + 1) rows carried
@@ -635,7 +638,7 @@ taken_alone owns rule place (row ∷ rows) carried none =
     ]
 
 taken_none : (owns : ℕ → Bool) (place : ℕ) (rows : List HeaderRow) → ((other : CarryRule) → carries owns other ≡ true → marks_by other place rows ≡ [])
-    → taken owns rows ≡ []
+    → taken_lines owns rows ≡ []
 taken_none owns place [] none = refl
 taken_none owns place (row ∷ rows) none =
     let later = taken_none owns (place + 1) rows
@@ -711,8 +714,8 @@ turn_taken owns shares bytes index limit none left within others =
     let rules : rules_of (set shares index (lines_from limit lines)) ≡ rules_of shares = rules_set shares index (lines_from limit lines) none refl within in
     let P : RuleLines → Type 0 = λ l. AreOf at rows l × (carries owns l.rule ≡ true) in
     let T : List CarryRule → Type 0 = λ rs. AllByRecursion (λ rule. carries owns rule ≡ true) rs in (
-      joined (taken owns to.later),
-      ap (λ t. t ++ joined (taken owns to.later)) (rw (size, of.bytes) refl) ∙ to.bytes ∙ left.whole,
+      joined (taken_lines owns to.later),
+      ap (λ t. t ++ joined (taken_lines owns to.later)) (rw (size, of.bytes) refl) ∙ to.bytes ∙ left.whole,
       record {
         at = to.at;
         rows = to.later;
@@ -725,7 +728,7 @@ turn_taken owns shares bytes index limit none left within others =
               })
               (record { marks = rw (count, of.marks) to.own_marks; bytes = rw (size, of.bytes) to.own_bytes });
           tested = subst T (sym rules) are.tested;
-          apart = subst AreApart (sym rules) are.apart;
+          apart = subst AreDistinctRules (sym rules) are.apart;
           all = λ rule on. elim (are.all rule on) [
             | inl any ↦ inl (ap (list_any (same_rule rule)) rules ∙ any)
             | inr gone ↦ elim (cases_Bool (same_rule lines.rule rule)) [
@@ -767,7 +770,8 @@ next_first shares index none next place within first =
     }
 
 -- two of the shares have different rules
-apart_at : (shares : List RuleLines) (first second : ℕ) (one two : RuleLines) → AreApart (rules_of shares) → first < length shares → second < length shares
+apart_at : (shares : List RuleLines) (first second : ℕ) (one two : RuleLines) → AreDistinctRules (rules_of shares) → first < length shares
+    → second < length shares
     → (first ≡ second → ⊥) → same_rule (get_or shares first one).rule (get_or shares second two).rule ≡ false
 apart_at [] first second one two apart within inside differ = absurd (omega arith)
 apart_at (lines ∷ shares) zero zero one two apart within inside differ = absurd (differ refl)
@@ -808,7 +812,7 @@ run_fits owns shares bytes index limit none left within =
 
 -- at first all lines are left
 pub all_left : (owns : ℕ → Bool) (rows : List HeaderRow) (shares : List RuleLines) → AreShares (carries owns) 0 rows shares
-    → AreLeft owns shares (joined (taken owns rows))
+    → AreLeft owns shares (joined (taken_lines owns rows))
 all_left owns rows shares are = record { at = 0; rows = rows; are = are; whole = refl }
 
 -- the same of the same shares

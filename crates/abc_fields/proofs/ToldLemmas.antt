@@ -13,7 +13,7 @@ use Rattle.abc_fields.specs.Tunes.{is_key_line, ends_tune}
 use Rattle.abc_fields.specs.Values.{field_value, has_percent}
 use Rattle.abc_fields.specs.Fields.{header_of, values_of, non_empty, non_empty_values, first_key, key_text_of}
 use Rattle.abc_fields.specs.Inside.LinesLeft.{contents_of}
-use Rattle.abc_fields.specs.Inside.ToldLines.{most_told, is_told, told_places, IsNear, told_key, AreTold, IsPlaceKept, IsToldAt, lines_at}
+use Rattle.abc_fields.specs.Inside.ToldLines.{most_told, is_told, told_places, IsShortSpan, told_key, AreTold, IsPlaceKept, IsToldAt, lines_at}
 use Rattle.abc_fields.specs.declared.told_lines.LinePlace.{LinePlace}
 use Rattle.abc_fields.proofs.LineLaw.{spans_rise}
 use Rattle.abc_fields.proofs.LineOffsets.{spans_have_lines}
@@ -104,14 +104,14 @@ so_far_key all old line new places count is step this few = record {
 }
 
 -- the lines of a short text stand where two bytes say it
-all_near : (text : List ℕ) (low : ℕ) (lines : List Span) → length text ≤ longest_tune → SpansRise text low lines → AllByRecursion IsNear lines
+all_near : (text : List ℕ) (low : ℕ) (lines : List Span) → length text ≤ longest_tune → SpansRise text low lines → AllByRecursion IsShortSpan lines
 all_near text low [] short rise = tt
 all_near text low (line ∷ lines) short rise = (
   record { from = omega (arith, rise.0.ordered, rise.0.within, short); to = omega (arith, rise.0.within, short) },
   all_near text (line.to + 1) lines short rise.1,
 )
 
-pub lines_near : (text : List ℕ) → length text ≤ longest_tune → AllByRecursion IsNear (spans_of text)
+pub lines_near : (text : List ℕ) → length text ≤ longest_tune → AllByRecursion IsShortSpan (spans_of text)
 lines_near text short = all_near text 0 (spans_of text) short (spans_rise text)
 
 -- each of the places is one in the text

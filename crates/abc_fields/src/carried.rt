@@ -4,8 +4,8 @@ ghost use Rattle.abc_fields.specs.Tunes.{joined, tune_run};
 ghost use Rattle.abc_fields.specs.Fields.{header_of};
 ghost use Rattle.abc_fields.specs.FileHeaders.{has_letter};
 ghost use Rattle.abc_fields.specs.Inside.LinesLeft.{contents_of};
-ghost use Rattle.abc_fields.specs.Inside.HeaderRows.{taken};
-ghost use Rattle.abc_fields.specs.Inside.CarriedBytes.{IsKept, KeepsCarried};
+ghost use Rattle.abc_fields.specs.Inside.HeaderRows.{taken_lines};
+ghost use Rattle.abc_fields.specs.Inside.CarriedBytes.{IsKeptOfRows, KeepsCarried};
 
 use crate::file_header::FileHeader;
 use crate::header_letters::Letters;
@@ -24,7 +24,7 @@ pub(crate) struct Kept {
 impl Kept {
     // What a tune without a field carries.
     fn new(alloc: Global, shares: &Shares) -> Result<Kept, AllocError>
-        ensures { IfOk result (λ kept. IsKept shares.now kept) }
+        ensures { IfOk result (λ kept. IsKeptOfRows shares.now kept) }
     {
         let letters = Letters::none();
         let mut bytes = Vec::new(alloc);
@@ -69,7 +69,7 @@ impl<'h, 'a> Carried<'h, 'a> {
     ) -> Result<(), AllocError>
         requires { KeepsCarried header.now self.old }
         ensures kept { OnOk result (KeepsCarried header.now self.new) }
-        ensures bytes { OnOk result (self.new.last.bytes.items ≡ joined (taken
+        ensures bytes { OnOk result (self.new.last.bytes.items ≡ joined (taken_lines
             (has_letter (header_of (tune_run (contents_of lines.entry)))) header.now)) }
     {
         if header.is_empty() {

@@ -8,7 +8,7 @@ ghost use Rattle.abc_fields.specs.Inside.LinesLeft.{contents_of};
 ghost use Rattle.abc_fields.specs.Tunes.{joined};
 ghost use Rattle.abc_fields.specs.FileHeaders.{carries};
 ghost use Rattle.abc_fields.specs.Inside.HeaderRows.{HeaderRow, row_list, rows_with, header_rows};
-ghost use Rattle.abc_fields.specs.Inside.HeaderRows.{taken};
+ghost use Rattle.abc_fields.specs.Inside.HeaderRows.{taken_lines};
 ghost use Rattle.abc_fields.specs.Inside.HeaderRows.{in_table, AreByteRows, AreSums, sum_carried};
 ghost use Rattle.abc_fields.specs.Inside.HeaderRows.{sum_all, IsByteRule};
 
@@ -98,7 +98,8 @@ impl<'a> FileHeader<'a> {
 
     // How many bytes the lines have that a tune with these letters carries, with their line feeds.
     pub(crate) fn length_for(&self, letters: &Letters) -> usize
-        ensures value { result ≡ length (joined (taken (in_table letters.now.table) self.now)) }
+        ensures value { result
+            ≡ length (joined (taken_lines (in_table letters.now.table) self.now)) }
         ensures few { result ≤ longest_book + 1 }
     {
         let mut length = 0;
@@ -113,7 +114,7 @@ impl<'a> FileHeader<'a> {
     // Writes the lines that a tune with these letters carries, and looks at each line.
     pub(crate) fn write_for(&self, letters: &Letters, out: &mut Vec<u8>) -> Result<(), AllocError>
         ensures { OnOk result (out.new.items
-            ≡ out.old.items ++ joined (taken (in_table letters.now.table) self.now)) }
+            ≡ out.old.items ++ joined (taken_lines (in_table letters.now.table) self.now)) }
     {
         for line in self.lines.iter() {
             if letters.carry(line.rule) {

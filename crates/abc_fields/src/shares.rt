@@ -3,7 +3,7 @@ ghost use Rattle.std.specs.Prelude.{◌≡◌, ℕ, ◌+◌, ◌<◌, ◌≤◌,
 ghost use Rattle.std.specs.Prelude.{slice_index_or, IfOk, OnOk, MatchOption, IfNone, IfSome, true};
 ghost use Rattle.abc_fields.specs.Tunes.{joined};
 ghost use Rattle.abc_fields.specs.FileHeaders.{carries};
-ghost use Rattle.abc_fields.specs.Inside.HeaderRows.{HeaderRow, taken, in_table, rows_with};
+ghost use Rattle.abc_fields.specs.Inside.HeaderRows.{HeaderRow, taken_lines, in_table, rows_with};
 ghost use Rattle.abc_fields.specs.Inside.Shares.{RuleLines, with_line, AreShares};
 ghost use Rattle.abc_fields.specs.Inside.Shares.{run_count, run_length, lines_from, BeginAt};
 ghost use Rattle.abc_fields.specs.Inside.Shares.{IsFirst, ShareBegins};
@@ -130,7 +130,7 @@ impl<'h, 'a> Shares<'h, 'a> {
         out: &mut Vec<u8>,
     ) -> Result<(), AllocError>
         ensures { OnOk result (out.new.items
-            ≡ out.old.items ++ joined (taken (in_table letters.now.table) self.now)) }
+            ≡ out.old.items ++ joined (taken_lines (in_table letters.now.table) self.now)) }
     {
         let mut rests = self.rests_for(alloc, letters)?;
         let most_turns = self.changes.min(self.header.length_for(letters) / 3);

@@ -5,7 +5,7 @@ ghost use Rattle.std.specs.List.{AllByRecursion};
 ghost use Rattle.abc_fields.specs.Tunes.{has_key};
 ghost use Rattle.abc_fields.specs.Inside.LinesLeft.{contents_of};
 ghost use Rattle.abc_fields.specs.Inside.HeaderEnds.{key_place, has_end};
-ghost use Rattle.abc_fields.specs.Inside.ToldLines.{most_told, is_told, IsNear, AreTold};
+ghost use Rattle.abc_fields.specs.Inside.ToldLines.{most_told, is_told, IsShortSpan, AreTold};
 ghost use Rattle.abc_fields.specs.Inside.ToldLines.{IsPlaceKept};
 
 use crate::key_place::KeyPlace;
@@ -121,7 +121,7 @@ pub(crate) fn is_told(line: &[u8]) -> bool
 // give the titles, the rhythm and the key.
 #[inline(always)]
 pub(crate) fn find_told(lines: &mut Lines) -> Option<(KeyPlace, ToldLines)>
-    requires { AllByRecursion IsNear lines.old }
+    requires { AllByRecursion IsShortSpan lines.old }
     ensures { MatchOption result
         ((has_end (contents_of lines.old) ≡ true) ⊎ (has_key (contents_of lines.old) ≡ false))
         (λ found. (key_place false lines.old ≡ Some found.0)

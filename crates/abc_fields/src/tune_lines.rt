@@ -12,7 +12,7 @@ ghost use Rattle.abc_fields.specs.Tunes.{is_tune_start, ends_tune, tune_run, joi
 ghost use Rattle.abc_fields.specs.Tunes.{IsTextWithin};
 ghost use Rattle.abc_fields.specs.FileHeaders.{before_key, has_letter};
 ghost use Rattle.abc_fields.specs.Books.{Texts, tune_answer};
-ghost use Rattle.abc_fields.specs.Inside.HeaderRows.{with_rows, taken};
+ghost use Rattle.abc_fields.specs.Inside.HeaderRows.{with_rows, taken_lines};
 ghost use Rattle.abc_fields.specs.Inside.CarriedBytes.{KeepsCarried};
 ghost use Rattle.abc_fields.specs.Fields.{header_of};
 
@@ -129,7 +129,7 @@ pub(crate) fn judge_tune(
 // How many bytes the lines have that a tune carries, of which these are the lines.
 fn length_carried(header: &FileHeader, lines: Lines) -> usize
     ensures value { let run = tune_run (contents_of lines.entry) in
-        result ≡ length (joined (taken (has_letter (header_of run)) header.now)) }
+        result ≡ length (joined (taken_lines (has_letter (header_of run)) header.now)) }
     ensures few { result ≤ longest_book + 1 }
 {
     if header.is_empty() {

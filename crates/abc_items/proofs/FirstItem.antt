@@ -9,7 +9,7 @@ use Rattle.abc_items.specs.Marks.{quotation_mark}
 use Rattle.abc_items.specs.declared.kinds.Front.{Front}
 use Rattle.abc_items.specs.declared.kinds.Kind.{Kind}
 use Rattle.abc_items.specs.declared.kinds.Kind.TheVariants.{Quoted, Decoration, Grace, InlineField, Chord, Tuplet, Note, Bar, Other}
-use Rattle.abc_items.specs.Grammar.{IsEnclosed, Fits, FitsNowhere, IsItem, rank}
+use Rattle.abc_items.specs.Grammar.{IsEnclosed, FitsRow, FitsNowhere, IsItem, row_rank}
 use Rattle.abc_items.specs.Inside.ItemRows.{first_item, front, or_else, enclosed, inline_field, chord, tuplet, note}
 use Rattle.abc_items.proofs.RowLengths.{FindsText, row_finds, one_text_of, same_front}
 use Rattle.abc_items.proofs.ClosedRows.{enclosed_gives, enclosed_is, field_gives, field_is, chord_gives, chord_is}
@@ -30,45 +30,45 @@ kind_at (suc (suc (suc (suc (suc (suc (suc zero))))))) = Bar
 kind_at (suc (suc (suc (suc (suc (suc (suc (suc n)))))))) = Other
 
 -- each row stands at its place
-kind_at_rank : (kind : Kind) → kind_at (rank kind) ≡ kind
+kind_at_rank : (kind : Kind) → kind_at (row_rank kind) ≡ kind
 unfolding kind_at
 kind_at_rank Quoted = refl
 kind_at_rank _ = refl
 
 -- no two rows stand at one place
-same_kind : (kind other : Kind) → rank kind ≡ rank other → kind ≡ other
+same_kind : (kind other : Kind) → row_rank kind ≡ row_rank other → kind ≡ other
 same_kind kind other same = sym (kind_at_rank kind) ∙ ap kind_at same ∙ kind_at_rank other
 
 -- ROW BY ROW
 -- the item is of the first row that fits, from a row of the table on
 record IsFirstFrom (place : ℕ) (line : List ℕ) (item : Front) : Type 0 where
-  pub fits : Fits item.kind (take item.length line) (drop item.length line)
-  pub later : place ≤ rank item.kind
-  pub first : (kind : Kind) → place ≤ rank kind → rank kind < rank item.kind → FitsNowhere kind line
+  pub fits : FitsRow item.kind (take item.length line) (drop item.length line)
+  pub later : place ≤ row_rank item.kind
+  pub first : (kind : Kind) → place ≤ row_rank kind → row_rank kind < row_rank item.kind → FitsNowhere kind line
 
 -- a number from this one on is this one, or comes after it
 at_or_after : (a b : ℕ) → a ≤ b → (a + 1 ≤ b) ⊎ (b ≡ a)
 at_or_after a b low = grind arith
 
 -- a row that fits nowhere, and the rows after it that do not
-nowhere_from : (kind : Kind) (line : List ℕ) (item : Front) → FindsText (Fits kind) line None → IsFirstFrom (rank kind + 1) line item
-    → (other : Kind) → (rank kind + 1 ≤ rank other) ⊎ (rank other ≡ rank kind) → rank other < rank item.kind → FitsNowhere other line
+nowhere_from : (kind : Kind) (line : List ℕ) (item : Front) → FindsText (FitsRow kind) line None → IsFirstFrom (row_rank kind + 1) line item
+    → (other : Kind) → (row_rank kind + 1 ≤ row_rank other) ⊎ (row_rank other ≡ row_rank kind) → row_rank other < row_rank item.kind → FitsNowhere other line
 nowhere_from kind line item none after other (inl above) high = after.first other above high
 nowhere_from kind line item none after other (inr here) high = let P : Kind → Type 0 = λ k. FitsNowhere k line in subst P (sym (same_kind other kind here)) none
 
 -- one row before the rows after it
-one_row : (kind : Kind) (found : Option ℕ) (line : List ℕ) (item : Front) → FindsText (Fits kind) line found → IsFirstFrom (rank kind + 1) line item
-    → IsFirstFrom (rank kind) line (or_else kind found item)
+one_row : (kind : Kind) (found : Option ℕ) (line : List ℕ) (item : Front) → FindsText (FitsRow kind) line found → IsFirstFrom (row_rank kind + 1) line item
+    → IsFirstFrom (row_rank kind) line (or_else kind found item)
 one_row kind (Some n) line item finds after = record { fits = finds; later = omega arith; first = λ other low high. absurd (omega arith) }
 one_row kind None line item finds after = record {
   fits = after.fits;
   later = omega (arith, after.later);
-  first = λ other low high. nowhere_from kind line item finds after other (at_or_after (rank kind) (rank other) low) high;
+  first = λ other low high. nowhere_from kind line item finds after other (at_or_after (row_rank kind) (row_rank other) low) high;
 }
 
 -- both forms of a decoration
 neither : (line : List ℕ) → FindsText (λ t r. IsEnclosed exclamation_mark exclamation_mark t) line None
-    → FindsText (λ t r. IsEnclosed plus_sign plus_sign t) line None → FindsText (Fits Decoration) line None
+    → FindsText (λ t r. IsEnclosed plus_sign plus_sign t) line None → FindsText (FitsRow Decoration) line None
 neither line exclaimed added text rest whole (inl f) = exclaimed text rest whole f
 neither line exclaimed added text rest whole (inr f) = added text rest whole f
 
@@ -94,9 +94,9 @@ no_bar byte text no_line no_colon other rest whole (inr f) =
     absurd (cc)
 
 -- the row of bars alone stands before the last row, from its place on
-only_bar_before : (line : List ℕ) → FitsNowhere Bar line → (kind : Kind) → 7 ≤ rank kind → rank kind < 8 → FitsNowhere kind line
+only_bar_before : (line : List ℕ) → FitsNowhere Bar line → (kind : Kind) → 7 ≤ row_rank kind → row_rank kind < 8 → FitsNowhere kind line
 only_bar_before line none kind low high =
-    let seven : rank kind ≡ rank Bar = omega arith in
+    let seven : row_rank kind ≡ row_rank Bar = omega arith in
     let P : Kind → Type 0 = λ k. FitsNowhere k line in
     subst P (sym (same_kind kind Bar seven)) none
 
@@ -123,10 +123,10 @@ first_item_first byte text =
     (two_rows (enclosed exclamation_mark exclamation_mark line) (enclosed plus_sign plus_sign line) line _
     (enclosed_finds exclamation_mark exclamation_mark line) (enclosed_finds plus_sign plus_sign line)
     (one_row Grace (enclosed opening_brace closing_brace line) line _ (enclosed_finds opening_brace closing_brace line)
-    (one_row InlineField (inline_field line) line _ (row_finds (Fits InlineField) inline_field field_gives field_is line)
-    (one_row Chord (chord line) line _ (row_finds (Fits Chord) chord chord_gives chord_is line)
-    (one_row Tuplet (tuplet line) line _ (row_finds (Fits Tuplet) tuplet tuplet_gives tuplet_is line)
-    (one_row Note (note line) line _ (row_finds (Fits Note) note note_gives note_is line)
+    (one_row InlineField (inline_field line) line _ (row_finds (FitsRow InlineField) inline_field field_gives field_is line)
+    (one_row Chord (chord line) line _ (row_finds (FitsRow Chord) chord chord_gives chord_is line)
+    (one_row Tuplet (tuplet line) line _ (row_finds (FitsRow Tuplet) tuplet tuplet_gives tuplet_is line)
+    (one_row Note (note line) line _ (row_finds (FitsRow Note) note note_gives note_is line)
     (one_byte byte text (eqb byte bar_mark) (eqb byte colon) refl refl)))))))
 
 -- the front of a line is an item
@@ -149,7 +149,7 @@ some_after text [] byte tail is = some_of text byte tail is
 some_after text (first ∷ front) byte tail is = some_of text first (front ++ (byte ∷ tail)) is
 
 -- a text of any row has a byte
-pub item_has_byte : (kind : Kind) (text rest : List ℕ) → Fits kind text rest → 0 < length text
+pub item_has_byte : (kind : Kind) (text rest : List ℕ) → FitsRow kind text rest → 0 < length text
 item_has_byte Quoted text rest f = some_of text quotation_mark _ f.whole
 item_has_byte Decoration text rest (inl f) = some_of text exclamation_mark _ f.whole
 item_has_byte Decoration text rest (inr f) = some_of text plus_sign _ f.whole
@@ -177,7 +177,7 @@ one_byte_each : (byte also : ℕ) (text rest other later : List ℕ) → text �
 one_byte_each byte also text rest other later is that same = same_front text rest other later (ap length is ∙ sym (ap length that)) same
 
 -- a decoration is in one form, and ends at one byte
-one_decoration : (text rest other later : List ℕ) → Fits Decoration text rest → Fits Decoration other later → text ++ rest ≡ other ++ later → text ≡ other
+one_decoration : (text rest other later : List ℕ) → FitsRow Decoration text rest → FitsRow Decoration other later → text ++ rest ≡ other ++ later → text ≡ other
 one_decoration text rest other later (inl f) (inl g) same =
     one_text_of (λ t r. IsEnclosed exclamation_mark exclamation_mark t) (enclosed exclamation_mark exclamation_mark)
     (enclosed_gives exclamation_mark exclamation_mark) text rest other later f g same
@@ -187,27 +187,27 @@ one_decoration text rest other later (inl f) (inr g) same = clash exclamation_ma
 one_decoration text rest other later (inr f) (inl g) same = clash plus_sign exclamation_mark text rest other later _ _ refl f.whole g.whole same
 
 -- a bar is one byte
-one_bar : (text rest other later : List ℕ) → Fits Bar text rest → Fits Bar other later → text ++ rest ≡ other ++ later → text ≡ other
+one_bar : (text rest other later : List ℕ) → FitsRow Bar text rest → FitsRow Bar other later → text ++ rest ≡ other ++ later → text ≡ other
 one_bar text rest other later (inl f) (inl g) same = f ∙ sym g
 one_bar text rest other later (inr f) (inr g) same = f ∙ sym g
 one_bar text rest other later (inl f) (inr g) same = one_byte_each bar_mark colon text rest other later f g same
 one_bar text rest other later (inr f) (inl g) same = one_byte_each colon bar_mark text rest other later f g same
 
 -- a row fits at most one front of a line
-one_text : (kind : Kind) (text rest other later : List ℕ) → Fits kind text rest → Fits kind other later → text ++ rest ≡ other ++ later → text ≡ other
-one_text Quoted = one_text_of (Fits Quoted) (enclosed quotation_mark quotation_mark) (enclosed_gives quotation_mark quotation_mark)
+one_text : (kind : Kind) (text rest other later : List ℕ) → FitsRow kind text rest → FitsRow kind other later → text ++ rest ≡ other ++ later → text ≡ other
+one_text Quoted = one_text_of (FitsRow Quoted) (enclosed quotation_mark quotation_mark) (enclosed_gives quotation_mark quotation_mark)
 one_text Decoration = one_decoration
-one_text Grace = one_text_of (Fits Grace) (enclosed opening_brace closing_brace) (enclosed_gives opening_brace closing_brace)
-one_text InlineField = one_text_of (Fits InlineField) inline_field field_gives
-one_text Chord = one_text_of (Fits Chord) chord chord_gives
-one_text Tuplet = one_text_of (Fits Tuplet) tuplet tuplet_gives
-one_text Note = one_text_of (Fits Note) note note_gives
+one_text Grace = one_text_of (FitsRow Grace) (enclosed opening_brace closing_brace) (enclosed_gives opening_brace closing_brace)
+one_text InlineField = one_text_of (FitsRow InlineField) inline_field field_gives
+one_text Chord = one_text_of (FitsRow Chord) chord chord_gives
+one_text Tuplet = one_text_of (FitsRow Tuplet) tuplet tuplet_gives
+one_text Note = one_text_of (FitsRow Note) note note_gives
 one_text Bar = one_bar
 one_text Other = λ text rest other later f g same. one_byte_each f.0 g.0 text rest other later f.1 g.1 same
 
 -- two items at the front of one line are of one row: neither row comes before the other
 same_row : (kind also : Kind) (text rest other later : List ℕ) → IsItem kind text rest → IsItem also other later → text ++ rest ≡ other ++ later
-    → (rank kind ≡ rank also) ⊎ ((rank kind < rank also) ⊎ (rank also < rank kind)) → kind ≡ also
+    → (row_rank kind ≡ row_rank also) ⊎ ((row_rank kind < row_rank also) ⊎ (row_rank also < row_rank kind)) → kind ≡ also
 same_row kind also text rest other later is that same (inl equal) = same_kind kind also equal
 same_row kind also text rest other later is that same (inr (inl before)) = absurd (that.first kind before text rest same is.fits)
 same_row kind also text rest other later is that same (inr (inr after)) = absurd (is.first also after other later (sym same) that.fits)
@@ -221,6 +221,6 @@ pub record AreSame (kind also : Kind) (text rest other later : List ℕ) : Type 
 pub one_item : (kind also : Kind) (text rest other later : List ℕ) → IsItem kind text rest → IsItem also other later → text ++ rest ≡ other ++ later
     → AreSame kind also text rest other later
 one_item kind also text rest other later is that same =
-    let row = same_row kind also text rest other later is that same (cases_order (rank kind) (rank also)) in
-    let P : Kind → Type 0 = λ k. Fits k other later in
+    let row = same_row kind also text rest other later is that same (cases_order (row_rank kind) (row_rank also)) in
+    let P : Kind → Type 0 = λ k. FitsRow k other later in
     record { kinds = row; texts = one_text kind text rest other later is.fits (subst P (sym row) that.fits) same }

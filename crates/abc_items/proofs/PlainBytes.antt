@@ -16,7 +16,7 @@ use Rattle.abc_items.specs.NoteFronts.{is_note_name}
 use Rattle.abc_items.specs.Inside.ItemRows.{front, first_item}
 use Rattle.abc_items.specs.ItemSpans.{items_of, item_spans_from}
 use Rattle.abc_items.specs.Plain.{begins_longer_row, is_plain_byte, begin_plain}
-use Rattle.abc_items.specs.Inside.PlainFronts.{lone_kind, plain_front, alone}
+use Rattle.abc_items.specs.Inside.PlainFronts.{lone_kind, plain_front, lone_row}
 use Rattle.abc_items.proofs.ItemLaw.{first_item_some, items_step}
 use Rattle.abc_items.proofs.PlainItems.{plain_item}
 
@@ -78,14 +78,14 @@ marks_none (mark ∷ rest) none = rw none refl
 
 -- what a byte alone says of the first item
 pub alone_is : (bytes : List ℕ) → 0 < length bytes
-    → let found = alone (slice_index bytes 0) (take (length bytes - 1) (drop 1 bytes)) in
+    → let found = lone_row (slice_index bytes 0) (take (length bytes - 1) (drop 1 bytes)) in
     IfSome found (λ kind. front kind 1 ≡ first_item bytes) × (is_some found ≡ (begins is_plain_byte bytes && (first_item bytes).length == 1))
 alone_is [] some = absurd (omega arith)
 alone_is (byte ∷ rest) some =
     let long : length (byte ∷ rest) - 1 ≡ length rest = omega arith in
     let P : List ℕ → Type 0 =
-    λ r. IfSome (alone byte r) (λ kind. front kind 1 ≡ first_item (byte ∷ rest))
-    × (is_some (alone byte r) ≡ (is_plain_byte byte && (first_item (byte ∷ rest)).length == 1)) in
+    λ r. IfSome (lone_row byte r) (λ kind. front kind 1 ≡ first_item (byte ∷ rest))
+    × (is_some (lone_row byte r) ≡ (is_plain_byte byte && (first_item (byte ∷ rest)).length == 1)) in
     subst P (sym (ap (λ n. take n rest) long ∙ take-length rest))
     (alone_by (is_note_name byte) (begins_longer_row byte) (begins is_octave_mark rest) (is_bar byte) (prefix_len is_octave_mark rest)
     (first_item (byte ∷ rest))

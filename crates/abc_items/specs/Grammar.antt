@@ -78,39 +78,40 @@ pub record IsNote (text rest : List ℕ) : Type 0 where
   pub whole : text ≡ spelling_of own ++ (name ∷ marks)
 
 -- the text is of the row, where this rest of the line follows it
-abbrev pub Fits : Kind → List ℕ → List ℕ → Type 0
-Fits Quoted text rest = IsEnclosed quotation_mark quotation_mark text
-Fits Decoration text rest =
+abbrev pub FitsRow : Kind → List ℕ → List ℕ → Type 0
+FitsRow Quoted text rest = IsEnclosed quotation_mark quotation_mark text
+FitsRow Decoration text rest =
     IsEnclosed exclamation_mark exclamation_mark text ⊎ IsEnclosed plus_sign plus_sign text
-Fits Grace text rest = IsEnclosed opening_brace closing_brace text
-Fits InlineField text rest = IsInlineField text
-Fits Chord text rest = IsChord text
-Fits Tuplet text rest = IsTuplet text rest
-Fits Note text rest = IsNote text rest
-Fits Bar text rest = (text ≡ codes "|") ⊎ (text ≡ codes ":")
-Fits Other text rest = (byte : ℕ) × (text ≡ byte ∷ [])
+FitsRow Grace text rest = IsEnclosed opening_brace closing_brace text
+FitsRow InlineField text rest = IsInlineField text
+FitsRow Chord text rest = IsChord text
+FitsRow Tuplet text rest = IsTuplet text rest
+FitsRow Note text rest = IsNote text rest
+FitsRow Bar text rest = (text ≡ codes "|") ⊎ (text ≡ codes ":")
+FitsRow Other text rest = (byte : ℕ) × (text ≡ byte ∷ [])
 
 -- THE FIRST ROW THAT FITS
 -- where a row stands in the table
-abbrev pub rank : Kind → ℕ
-rank Quoted = 0
-rank Decoration = 1
-rank Grace = 2
-rank InlineField = 3
-rank Chord = 4
-rank Tuplet = 5
-rank Note = 6
-rank Bar = 7
-rank Other = 8
+abbrev pub row_rank : Kind → ℕ
+row_rank Quoted = 0
+row_rank Decoration = 1
+row_rank Grace = 2
+row_rank InlineField = 3
+row_rank Chord = 4
+row_rank Tuplet = 5
+row_rank Note = 6
+row_rank Bar = 7
+row_rank Other = 8
 
 -- no front of the line is of this row
 abbrev pub FitsNowhere : Kind → List ℕ → Type 0
-FitsNowhere kind line = (text rest : List ℕ) → text ++ rest ≡ line → Fits kind text rest → ⊥
+FitsNowhere kind line = (text rest : List ℕ) → text ++ rest ≡ line → FitsRow kind text rest → ⊥
 
 -- the row fits, and no row before it fits any front of the line
 pub record IsItem (kind : Kind) (text rest : List ℕ) : Type 0 where
-  pub fits : Fits kind text rest
-  pub first : (earlier : Kind) → rank earlier < rank kind → FitsNowhere earlier (text ++ rest)
+  pub fits : FitsRow kind text rest
+  pub first : (earlier : Kind) → row_rank earlier < row_rank kind
+      → FitsNowhere earlier (text ++ rest)
 
 -- THE ITEMS OF A LINE
 -- what an item is, and its bytes

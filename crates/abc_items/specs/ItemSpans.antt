@@ -1,7 +1,7 @@
 -- The items of a text, and where each begins and ends.
 use Rattle.std.specs.Prelude.{◌≡◌, ℕ, ◌+◌, ◌<◌, ◌≤◌, List, [], ◌∷◌, length, drop, slice_range}
 use Rattle.abc_items.specs.declared.kinds.Kind.{Kind}
-use Rattle.abc_items.specs.Grammar.{ItemText, IsItem, Fits}
+use Rattle.abc_items.specs.Grammar.{ItemText, IsItem, FitsRow}
 use Rattle.abc_items.specs.Inside.ItemRows.{items_read}
 
 -- the items that are read from a text: by the table (`AreItems`) they are its items, and it has no
@@ -48,4 +48,4 @@ ItemSpansFill text at (span ∷ spans) = IsSpanAt text at span × ItemSpansFill 
 
 -- the bytes of a span are of its row, before the rest of the text
 abbrev pub FitsItsRow : List ℕ → ItemSpan → Type 0
-FitsItsRow text span = Fits span.kind span.bytes (drop span.to text)
+FitsItsRow text span = FitsRow span.kind span.bytes (drop span.to text)

@@ -14,7 +14,7 @@ ghost use Rattle.abc_items.specs.Inside.ItemRows.{first_item};
 ghost use Rattle.abc_items.specs.Plain.{begins_longer_row, is_plain_byte};
 ghost use Rattle.abc_items.specs.Inside.FrontLengths.{IsFrontLength};
 ghost use Rattle.abc_items.specs.Inside.Misses.{AreMissing, IsMissing};
-ghost use Rattle.abc_items.specs.Inside.PlainFronts.{lone_kind, plain_front, alone};
+ghost use Rattle.abc_items.specs.Inside.PlainFronts.{lone_kind, plain_front, lone_row};
 
 use crate::kinds::{Front, Kind};
 use abc_keys::{Accidental, accidental_of, doubled};
@@ -285,7 +285,7 @@ pub(crate) fn plain_kind(bytes: &[u8]) -> Option<Kind>
 // What a byte is before a rest, where it is an item alone. Most bytes are notes.
 #[inline(always)]
 fn alone(byte: u8, rest: &[u8]) -> Option<Kind>
-    ensures { result ≡ alone byte rest.now }
+    ensures { result ≡ lone_row byte rest.now }
 {
     if is_note_name(byte) {
         return if begins_with_octave_mark(rest) {

@@ -7,7 +7,7 @@ use Rattle.abc_keys.specs.declared.signatures.Signature.{Signature}
 use Rattle.abc_keys.specs.Signatures.{accidental_at, with_accidental, no_accidentals}
 use Rattle.abc_keys.specs.Pairs.{Setting, with_settings}
 use Rattle.abc_keys.specs.Accidentals.{SetsItsPairs, SetsNone, LastCounts}
-use Rattle.abc_keys.specs.Inside.PairSteps.{changed_by}
+use Rattle.abc_keys.specs.Inside.PairSteps.{changed_by_pairs}
 use Rattle.abc_keys.proofs.PairLaw.{pairs_set, others_change_nothing, is_pairs_or_none}
 
 -- THE LAST ONE COUNTS
@@ -54,5 +54,5 @@ pub sets_its_pairs : (word : List ℕ) → SetsItsPairs word
 sets_its_pairs word = record {
   pairs = λ s pairs spelled. pairs_set s pairs word spelled;
   others = λ s none. others_change_nothing s word none;
-  either = is_pairs_or_none no_accidentals word (changed_by no_accidentals None word) refl;
+  either = is_pairs_or_none no_accidentals word (changed_by_pairs no_accidentals None word) refl;
 }

@@ -10,17 +10,17 @@ use Rattle.abc_keys.specs.declared.scales.Sign.TheVariants.{Natural, Sharp, Flat
 use Rattle.abc_keys.specs.declared.scales.Mode.{Mode}
 use Rattle.abc_keys.specs.declared.scales.Mode.TheVariants.{Major, Lydian, Mixolydian, Dorian, Minor, Phrygian, Locrian}
 use Rattle.abc_keys.specs.declared.scales.Scale.{Scale}
-use Rattle.abc_keys.specs.Fifths.{tonic_fifths, sign_fifths, mode_fifths, fifths_of, listed, listed_count}
+use Rattle.abc_keys.specs.Fifths.{tonic_fifths, sign_fifths, mode_fifths, fifths_of, fifths_within, listed_count}
 
 -- a number from seven flats to seven sharps is listed
-some_listed : (z : ℤ) → negsuc 6 ≤ℤ z → z ≤ℤ pos 7 → listed z ≡ Some z
+some_listed : (z : ℤ) → negsuc 6 ≤ℤ z → z ≤ℤ pos 7 → fifths_within z ≡ Some z
 some_listed z low high =
     let not_below : lt_z z (negsuc 6) ≡ false = grind (arith, ints) in
     let not_above : lt_z (pos 7) z ≡ false = grind (arith, ints) in
     rw (not_below, not_above) refl
 
 -- and no other one is
-none_listed : (z : ℤ) → (z <ℤ negsuc 6) ⊎ (pos 7 <ℤ z) → listed z ≡ None
+none_listed : (z : ℤ) → (z <ℤ negsuc 6) ⊎ (pos 7 <ℤ z) → fifths_within z ≡ None
 none_listed z (inl low) = let below : lt_z z (negsuc 6) ≡ true = grind (arith, ints) in rw below refl
 none_listed z (inr high) =
     let not_below : lt_z z (negsuc 6) ≡ false = grind (arith, ints) in
@@ -29,7 +29,7 @@ none_listed z (inr high) =
 -- a scale that lies so far, from seven flats to seven sharps, has that count
 pub has_count : (scale : Scale) (z : ℤ) → z ≡ fifths_of scale → negsuc 6 ≤ℤ z → z ≤ℤ pos 7 → Some z ≡ listed_count scale
 unfolding listed_count
-has_count scale z e low high = sym (some_listed z low high) ∙ ap listed e
+has_count scale z e low high = sym (some_listed z low high) ∙ ap fifths_within e
 
 -- and one that lies further has none
 pub has_no_count : (scale : Scale) → (fifths_of scale <ℤ negsuc 6) ⊎ (pos 7 <ℤ fifths_of scale) → None ≡ listed_count scale
@@ -62,7 +62,7 @@ mode_fifths_small Locrian = (omega (arith, ints), omega (arith, ints))
 
 -- THE COUNTS THAT ARE LISTED
 -- a count that is listed is from seven flats to seven sharps
-few_listed : (z count : ℤ) → listed z ≡ Some count → (negsuc 6 ≤ℤ count) × (count ≤ℤ pos 7)
+few_listed : (z count : ℤ) → fifths_within z ≡ Some count → (negsuc 6 ≤ℤ count) × (count ≤ℤ pos 7)
 few_listed z count is = by_tests (lt_z z (negsuc 6)) (lt_z (pos 7) z) refl refl is
   where
     by_tests : (low high : Bool) → lt_z z (negsuc 6) ≡ low → lt_z (pos 7) z ≡ high → cond (low || high) None (Some z) ≡ Some count

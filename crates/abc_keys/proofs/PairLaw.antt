@@ -17,13 +17,13 @@ use Rattle.abc_keys.specs.Signatures.{with_accidental}
 use Rattle.abc_keys.specs.Pairs.{Setting, AreSpelled, IsNoPairs, with_settings}
 use Rattle.abc_keys.specs.Pairs.{WordLeaves, by_pairs, by_others, EachLeaves, WordsLeave}
 use Rattle.abc_keys.specs.Accidentals.{with_word, with_words}
-use Rattle.abc_keys.specs.Inside.PairSteps.{changed_by}
+use Rattle.abc_keys.specs.Inside.PairSteps.{changed_by_pairs}
 
 -- WORDS OF PAIRS CHANGE A SIGNATURE
 -- an accidental and a letter after it set the letter
 after_spelling : (s : Signature) (accidental : Accidental) (byte : ℕ) (rest : List ℕ)
     (letter : Letter) → letter_of byte ≡ Some letter
-    → changed_by s None (spelling accidental ++ (byte ∷ rest)) ≡ changed_by
+    → changed_by_pairs s None (spelling accidental ++ (byte ∷ rest)) ≡ changed_by_pairs
     (with_accidental s letter accidental) None rest
 after_spelling s DoubleFlat byte rest letter names = rw names refl
 after_spelling s Flat byte rest letter names = rw names refl
@@ -32,10 +32,10 @@ after_spelling s Sharp byte rest letter names = rw names refl
 after_spelling s DoubleSharp byte rest letter names = rw names refl
 
 pairs_change : (s : Signature) (pairs : List Setting) (word : List ℕ) → AreSpelled pairs word
-    → changed_by s None word ≡ Some (with_settings s pairs)
-pairs_change s [] word spelled = ap (changed_by s None) spelled
+    → changed_by_pairs s None word ≡ Some (with_settings s pairs)
+pairs_change s [] word spelled = ap (changed_by_pairs s None) spelled
 pairs_change s (p ∷ pairs) word (byte, rest, names, whole, more) =
-    ap (changed_by s None) whole ∙ after_spelling s p.accidental byte rest p.letter names
+    ap (changed_by_pairs s None) whole ∙ after_spelling s p.accidental byte rest p.letter names
     ∙ pairs_change (with_accidental s p.letter p.accidental) pairs rest more
 
 -- WORDS THAT CHANGE A SIGNATURE ARE PAIRS
@@ -98,12 +98,12 @@ two_bytes byte DoubleSharp twice is = absurd (cc)
 -- what leads to a signature is pairs
 abbrev LeadsToPairs : List ℕ → Type 0
 LeadsToPairs word = (s after : Signature) (before : Option Accidental)
-    → changed_by s before word ≡ Some after → ArePairs before word
+    → changed_by_pairs s before word ≡ Some after → ArePairs before word
 
 -- a byte before a word begins an accidental
 begins_pairs : (s after : Signature) (byte : ℕ) (word : List ℕ) (accidental : Option Accidental)
     → accidental_of byte ≡ accidental → LeadsToPairs word
-    → option_map_or (λ a. changed_by s (Some a) word) accidental None ≡ Some after
+    → option_map_or (λ a. changed_by_pairs s (Some a) word) accidental None ≡ Some after
     → ArePairs None (byte ∷ word)
 begins_pairs s after byte word None e leads is = absurd (cc)
 begins_pairs s after byte word (Some a) e leads is =
@@ -117,8 +117,8 @@ begins_pairs s after byte word (Some a) e leads is =
 goes_on_with_pairs : (s after : Signature) (a : Accidental) (byte : ℕ) (word : List ℕ)
     (letter : Option Letter) (twice : Option Accidental)
     → letter_of byte ≡ letter → doubled a byte ≡ twice → LeadsToPairs word
-    → option_map_or (λ l. changed_by (with_accidental s l a) None word) letter
-    (option_map_or (λ b. changed_by s (Some b) word) twice None) ≡ Some after
+    → option_map_or (λ l. changed_by_pairs (with_accidental s l a) None word) letter
+    (option_map_or (λ b. changed_by_pairs s (Some b) word) twice None) ≡ Some after
     → ArePairs (Some a) (byte ∷ word)
 goes_on_with_pairs s after a byte word (Some l) twice e f leads is =
     let later = leads (with_accidental s l a) after None is in
@@ -150,7 +150,7 @@ pairs_set s pairs word spelled =
 
 -- the word is pairs, or none
 pub is_pairs_or_none : (s : Signature) (word : List ℕ) (changed : Option Signature)
-    → changed_by s None word ≡ changed
+    → changed_by_pairs s None word ≡ changed
     → IsNoPairs word ⊎ ((pairs : List Setting) × AreSpelled pairs word)
 is_pairs_or_none s word None is =
     inl (λ pairs spelled. let both : None ≡ Some (with_settings s pairs) = sym is
@@ -159,13 +159,13 @@ is_pairs_or_none s word (Some after) is = inr (change_pairs word s after None is
 
 -- another word changes nothing
 some_after : (s : Signature) (word : List ℕ) (changed : Option Signature)
-    → changed_by s None word ≡ changed → IsNoPairs word → unwrap_or changed s ≡ s
+    → changed_by_pairs s None word ≡ changed → IsNoPairs word → unwrap_or changed s ≡ s
 some_after s word None is none = refl
 some_after s word (Some after) is none =
     let pairs = change_pairs word s after None is in absurd (none pairs.0 pairs.1)
 
 pub others_change_nothing : (s : Signature) (word : List ℕ) → IsNoPairs word → with_word s word ≡ s
-others_change_nothing s word none = some_after s word (changed_by s None word) refl none
+others_change_nothing s word none = some_after s word (changed_by_pairs s None word) refl none
 
 -- either way it is the signature that is left
 is_left : (s : Signature) (word : List ℕ)
@@ -179,7 +179,7 @@ is_left s word (inr (pairs, spelled)) =
     (by_pairs pairs spelled)
 
 pub is_left_by_word : (s : Signature) (word : List ℕ) → WordLeaves s word (with_word s word)
-is_left_by_word s word = is_left s word (is_pairs_or_none s word (changed_by s None word) refl)
+is_left_by_word s word = is_left s word (is_pairs_or_none s word (changed_by_pairs s None word) refl)
 
 -- and no second one
 pub only_left : (s after : Signature) (word : List ℕ) → WordLeaves s word after

@@ -7,11 +7,11 @@ use Rattle.abc_keys.specs.declared.letters.Letter.{Letter}
 use Rattle.abc_keys.specs.declared.signatures.Signature.{Signature}
 use Rattle.abc_keys.specs.Signatures.{accidental_at}
 use Rattle.abc_keys.specs.Pairs.{Setting, AreSpelled, IsNoPairs, with_settings}
-use Rattle.abc_keys.specs.Inside.PairSteps.{changed_by}
+use Rattle.abc_keys.specs.Inside.PairSteps.{changed_by_pairs}
 
 -- a word of pairs changes the signature, and another word does nothing
 abbrev pub with_word : Signature → List ℕ → Signature
-with_word s word = unwrap_or (changed_by s None word) s
+with_word s word = unwrap_or (changed_by_pairs s None word) s
 
 -- each word of a text in turn; what stands between two blanks next to each other is an empty word,
 -- which does nothing

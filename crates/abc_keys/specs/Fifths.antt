@@ -42,10 +42,10 @@ abbrev pub fifths_of : Scale → ℤ
 fifths_of scale = tonic_fifths scale.tonic +ℤ sign_fifths scale.sign +ℤ mode_fifths scale.mode
 
 -- a count from seven flats to seven sharps
-abbrev pub listed : ℤ → Option ℤ
-listed count = if int_lt count (negsuc 6) || int_lt (pos 7) count then None else Some count
+abbrev pub fifths_within : ℤ → Option ℤ
+fifths_within count = if int_lt count (negsuc 6) || int_lt (pos 7) count then None else Some count
 
 -- the count of sharps, or of flats below zero, of a scale that is listed: from seven flats to seven
 -- sharps
 unfoldable pub listed_count : Scale → Option ℤ
-listed_count scale = listed (fifths_of scale)
+listed_count scale = fifths_within (fifths_of scale)

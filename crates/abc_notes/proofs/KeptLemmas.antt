@@ -5,7 +5,7 @@ use Rattle.abc_fields.specs.Limits.{longest_book}
 use Rattle.abc_keys.specs.declared.signatures.Signature.{Signature}
 use Rattle.abc_notes.specs.declared.bar.Bar.{Bar}
 use Rattle.abc_notes.specs.Events.{WrittenNote, Event, note, bar, change}
-use Rattle.abc_notes.specs.Inside.KeptBar.{past_of, notes_left, asked_of, IsKeptBar}
+use Rattle.abc_notes.specs.Inside.KeptBar.{past_of, notes_left, asked_notes, IsKeptBar}
 use Rattle.abc_notes.specs.Pitches.{SoundedNote, accidental_of_note, sounded, sounded_notes, counting}
 use Rattle.abc_notes.specs.Inside.BarTables.{IsBarAfter}
 use Rattle.abc_notes.proofs.BarLemmas.{drop_one, past_one, past_none}
@@ -56,14 +56,14 @@ notes_over_bar old new bar_events events rest kept is after start =
 
 -- a note that is not asked for is left out
 pub not_asked : (n : SoundedNote) (notes left : List SoundedNote) (all : Bool) → all ≡ false → n.counts ≡ false → notes ≡ n ∷ left
-    → asked_of all notes ≡ asked_of all left
+    → asked_notes all notes ≡ asked_notes all left
 not_asked n notes left true some other is = absurd (cc)
 not_asked n notes left false some other is =
     ap counting is ∙ (λ i. cond (other i) (n ∷ counting left) (counting left))
 
 -- one that is asked for is the first
 pub is_asked : (n : SoundedNote) (notes left : List SoundedNote) (all : Bool) → (all || n.counts) ≡ true → notes ≡ n ∷ left
-    → asked_of all notes ≡ n ∷ asked_of all left
+    → asked_notes all notes ≡ n ∷ asked_notes all left
 is_asked n notes left true wanted is = is
 is_asked n notes left false wanted is = ap counting is ∙ (λ i. cond (wanted i) (n ∷ counting left) (counting left))
 

@@ -14,7 +14,7 @@ use Rattle.abc_keys.specs.Keys.{key_of_text, signature_of}
 use Rattle.abc_keys.specs.declared.signatures.Signature.{Signature}
 use Rattle.abc_items.specs.declared.kinds.Kind.{Kind}
 use Rattle.abc_items.specs.declared.kinds.Kind.TheVariants as kind
-use Rattle.abc_items.specs.Grammar.{Fits}
+use Rattle.abc_items.specs.Grammar.{FitsRow}
 use Rattle.abc_items.specs.ItemSpans.{ItemSpan, item_spans_of, IsSpanAt, ItemSpansFill}
 use Rattle.abc_items.proofs.ItemSpans.{spans_fill}
 use Rattle.abc_notes.proofs.TextParts.{line_long, chord_brackets, StandsAt, stands_within, stands_itself, stands_between, stands_ends, stands_part}
@@ -166,7 +166,7 @@ inline_run text low high (bracket ∷ name ∷ between ∷ rest) ordered =
 -- the events of an item of a line lie within it
 item_run : (text rest : List ℕ) (base : ℕ) (k : Kind) (span : ItemSpan) → StandsAt text (base + span.from) span.bytes → span.from < span.to
     → span.to ≡ span.from + length span.bytes
-    → Fits k span.bytes rest → NotesRun text (base + span.from) (base + span.to) (item_events base k span)
+    → FitsRow k span.bytes rest → NotesRun text (base + span.from) (base + span.to) (item_events base k span)
 unfolding item_events
 item_run text rest base kind.Chord span stands some ends fits = chord_item_run text base span stands ends (chord_brackets span.bytes fits)
 item_run text rest base kind.InlineField span stands some ends fits = inline_run text (base + span.from) (base + span.to) span.bytes (omega arith)

@@ -9,7 +9,7 @@ use Rattle.abc_fields.specs.LineKinds.{begins_part, ends_part_line, in_part_afte
 use Rattle.abc_fields.specs.Tunes.{is_key_line}
 use Rattle.abc_notes.specs.Events.{Event}
 use Rattle.abc_notes.specs.Music.{line_meaning, body_events, events_after_header}
-use Rattle.abc_notes.specs.HeardLines.{LiesInPart, have_key, Gives, AreGiven}
+use Rattle.abc_notes.specs.HeardLines.{LiesInPart, have_key, GivesEvents, AreGiven}
 
 -- WHERE PARTS BEGIN AND END
 -- no line both begins a part and ends one
@@ -112,7 +112,7 @@ key-push (first ∷ before) line key none is = elim (cases_Bool (is_key_line fir
 
 -- EACH LINE
 gives_body : (before : List Line) (line : Line) (inside : Bool) → have_key before ≡ true → part_after false before ≡ inside
-    → Gives before line (line_meaning inside line)
+    → GivesEvents before line (line_meaning inside line)
 gives_body before line true has is = record {
   header = λ none. let e : true ≡ false = sym has ∙ none in cc;
   hidden = λ lies. refl;
@@ -124,7 +124,7 @@ gives_body before line false has is = record {
   heard = λ has_key free. refl;
 }
 
-gives_header : (before : List Line) (line : Line) → have_key before ≡ false → Gives before line []
+gives_header : (before : List Line) (line : Line) → have_key before ≡ false → GivesEvents before line []
 gives_header before line none = record {
   header = λ again. refl;
   hidden = λ lies. refl;
@@ -169,7 +169,7 @@ lines_given before (line ∷ lines) inside none is = elim (cases_Bool (is_key_li
 ]
 
 -- ONE LIST OF EVENTS
-gives_same : (before : List Line) (line : Line) (events others : List Event) → Gives before line events → Gives before line others → events ≡ others
+gives_same : (before : List Line) (line : Line) (events others : List Event) → GivesEvents before line events → GivesEvents before line others → events ≡ others
 gives_same before line events others one other = elim (cases_Bool (have_key before)) [
   | inr none ↦ one.header none ∙ sym (other.header none)
   | inl has ↦ elim (cases_Bool (part_after false before)) [

@@ -9,7 +9,7 @@ use Rattle.abc_keys.specs.declared.signatures.Signature.{Signature}
 use Rattle.abc_keys.specs.Signatures.{accidental_at}
 use Rattle.abc_notes.specs.Events.{WrittenNote, Event, note, bar, change}
 use Rattle.abc_notes.specs.Pitches.{same_octave, same_note, is_at, borne, in_force, sounded, sounded_notes}
-use Rattle.abc_notes.specs.Inside.BarTables.{IsNear, held_in, Holds}
+use Rattle.abc_notes.specs.Inside.BarTables.{IsNearOctave, held_in, HoldsBar}
 
 -- BEHIND A BAR
 -- nothing is borne behind a bar
@@ -60,8 +60,8 @@ pass false own b e = refl
 
 -- an entry that is set is borne by the note
 pub holds_set : (n : WrittenNote) (x : Accidental) (past : List Event) (before after : List (Option Accidental)) → n.own ≡ Some x
-    → ((l : Letter) (o : ℤ) → IsNear o → held_in after l o ≡ cond (same_note n.letter n.octave l o) (Some x) (held_in before l o))
-    → Holds before past → Holds after (note n ∷ past)
+    → ((l : Letter) (o : ℤ) → IsNearOctave o → held_in after l o ≡ cond (same_note n.letter n.octave l o) (Some x) (held_in before l o))
+    → HoldsBar before past → HoldsBar after (note n ∷ past)
 unfolding borne
 holds_set n x past before after e set held l o near =
     set l o near ∙ ap (λ b. cond (is_at n l o) (Some x) b) (held l o near) ∙ pick (is_at n l o) n.own x (borne past l o) e
@@ -77,12 +77,12 @@ same_octave_is (negsuc a) (negsuc b) e = ap negsuc (eqb-true a b e)
 same_octave_is (pos a) (negsuc b) e = absurd (cc)
 same_octave_is (negsuc a) (pos b) e = absurd (cc)
 
-far_off : (a b : ℤ) (s : Bool) → (IsNear a → ⊥) → IsNear b → same_octave a b ≡ s → s ≡ false
-far_off a b true far near e = absurd (far (subst (λ (o : ℤ). IsNear o) (sym (same_octave_is a b e)) near))
+far_off : (a b : ℤ) (s : Bool) → (IsNearOctave a → ⊥) → IsNearOctave b → same_octave a b ≡ s → s ≡ false
+far_off a b true far near e = absurd (far (subst (λ (o : ℤ). IsNearOctave o) (sym (same_octave_is a b e)) near))
 far_off a b false far near e = refl
 
-near_off : (a b : ℤ) (s : Bool) → IsNear a → (IsNear b → ⊥) → same_octave a b ≡ s → s ≡ false
-near_off a b true near far e = absurd (far (subst (λ (o : ℤ). IsNear o) (same_octave_is a b e) near))
+near_off : (a b : ℤ) (s : Bool) → IsNearOctave a → (IsNearOctave b → ⊥) → same_octave a b ≡ s → s ≡ false
+near_off a b true near far e = absurd (far (subst (λ (o : ℤ). IsNearOctave o) (same_octave_is a b e) near))
 near_off a b false near far e = refl
 
 skip_apart : (l s t : Bool) (own b : Option Accidental) → s ≡ false → b ≡ cond ((l && s) && t) own b
@@ -90,13 +90,15 @@ skip_apart true s t own b e = rw e refl
 skip_apart false s t own b e = refl
 
 -- a note outside the entries bears nothing within them
-pub borne_far : (n : WrittenNote) (past : List Event) (l : Letter) (o : ℤ) → (IsNear n.octave → ⊥) → IsNear o → borne past l o ≡ borne (note n ∷ past) l o
+pub borne_far : (n : WrittenNote) (past : List Event) (l : Letter) (o : ℤ) → (IsNearOctave n.octave → ⊥) → IsNearOctave o → borne past l o
+    ≡ borne (note n ∷ past) l o
 unfolding borne
 borne_far n past l o far near =
     skip_apart _ (same_octave n.octave o) (is_some n.own) n.own (borne past l o) (far_off n.octave o (same_octave n.octave o) far near refl)
 
 -- nor a note within them outside
-pub borne_near : (n : WrittenNote) (past : List Event) (l : Letter) (o : ℤ) → IsNear n.octave → (IsNear o → ⊥) → borne past l o ≡ borne (note n ∷ past) l o
+pub borne_near : (n : WrittenNote) (past : List Event) (l : Letter) (o : ℤ) → IsNearOctave n.octave → (IsNearOctave o → ⊥) → borne past l o
+    ≡ borne (note n ∷ past) l o
 unfolding borne
 borne_near n past l o near far =
     skip_apart _ (same_octave n.octave o) (is_some n.own) n.own (borne past l o) (near_off n.octave o (same_octave n.octave o) near far refl)

@@ -5,7 +5,7 @@ use Rattle.std.specs.Iterator.{YieldsFirstBy}
 use Rattle.abc_fields.specs.Limits.{longest_book}
 use Rattle.abc_items.specs.declared.kinds.Kind.{Kind}
 use Rattle.abc_items.specs.declared.kinds.Kind.TheVariants as kind
-use Rattle.abc_items.specs.Grammar.{Fits}
+use Rattle.abc_items.specs.Grammar.{FitsRow}
 use Rattle.abc_items.specs.ItemSpans.{ItemSpan, ItemSpansFill}
 use Rattle.abc_items.specs.declared.items.Item.{Item}
 use Rattle.abc_items.specs.ItemView.{item_span}
@@ -14,7 +14,7 @@ use Rattle.abc_notes.proofs.TextParts.{chord_brackets}
 use Rattle.abc_notes.specs.Inside.Bounds.{AreShort, IsShort}
 
 -- an item that is a chord has two brackets
-chord_long : (k : Kind) (text rest : List ℕ) → k ≡ kind.Chord → Fits k text rest → 2 ≤ length text
+chord_long : (k : Kind) (text rest : List ℕ) → k ≡ kind.Chord → FitsRow k text rest → 2 ≤ length text
 chord_long kind.Chord text rest is fits = chord_brackets text fits
 chord_long kind.Quoted text rest is fits = absurd (cc)
 chord_long kind.Decoration text rest is fits = absurd (cc)

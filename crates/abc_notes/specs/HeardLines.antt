@@ -23,7 +23,7 @@ abbrev pub have_key : List Line → Bool
 have_key lines = list_any (λ line. is_key_line line.bytes) lines
 
 -- the events that a line gives, after the lines before it
-pub record Gives (before : List Line) (line : Line) (events : List Event) : Type 0 where
+pub record GivesEvents (before : List Line) (line : Line) (events : List Event) : Type 0 where
   pub header : have_key before ≡ false → events ≡ []
   pub hidden : LiesInPart before → events ≡ []
   pub heard : have_key before ≡ true → ¬ LiesInPart before
@@ -34,4 +34,4 @@ abbrev pub AreGiven : List Line → List Line → List Event → Type 0
 AreGiven before [] events = events ≡ []
 AreGiven before (line ∷ lines) events =
     (own : List Event) × (later : List Event) × (own ++ later ≡ events)
-    × Gives before line own × AreGiven (before ++ line ∷ []) lines later
+    × GivesEvents before line own × AreGiven (before ++ line ∷ []) lines later

@@ -5,7 +5,7 @@ ghost use Rattle.abc_keys.specs.declared.letters.Letter.{Letter as AnyLetter};
 ghost use Rattle.abc_keys.specs.SameScales.{letter_number};
 ghost use Rattle.abc_notes.specs.Events.{Event as AnyEvent, note, bar, change};
 ghost use Rattle.abc_notes.specs.Inside.EventView.{written_note};
-ghost use Rattle.abc_notes.specs.Inside.BarTables.{IsNear, IsBarAfter, held_in, index_of};
+ghost use Rattle.abc_notes.specs.Inside.BarTables.{IsNearOctave, IsBarAfter, held_in, index_of};
 ghost use Rattle.abc_notes.specs.Pitches.{same_note};
 
 use crate::events::WrittenNote;
@@ -111,8 +111,8 @@ impl<'a> Bar<'a> {
 
 // Whether a note's octave is one of the sixteen.
 pub(crate) fn is_near(note: WrittenNote) -> bool
-    ensures yes { IsTrue result → IsNear note.entry.octave }
-    ensures no { IsNear note.entry.octave → IsTrue result }
+    ensures yes { IsTrue result → IsNearOctave note.entry.octave }
+    ensures no { IsNearOctave note.entry.octave → IsTrue result }
 {
     LOWEST_OCTAVE <= note.octave && note.octave < LOWEST_OCTAVE + OCTAVES
 }
@@ -122,15 +122,15 @@ pub(crate) fn entry(
     entries: &[Option<Accidental>; ENTRIES],
     note: WrittenNote,
 ) -> Option<Accidental>
-    requires { IsNear note.octave }
+    requires { IsNearOctave note.octave }
     ensures { result ≡ held_in entries.now note.entry.letter note.entry.octave }
 {
     entries[index_of(note)]
 }
 
 fn set_entry(entries: &mut [Option<Accidental>; ENTRIES], note: WrittenNote, accidental: Accidental)
-    requires { IsNear note.octave }
-    ensures { (l : AnyLetter) (o : ℤ) → IsNear o
+    requires { IsNearOctave note.octave }
+    ensures { (l : AnyLetter) (o : ℤ) → IsNearOctave o
         → held_in entries.new l o
         ≡ (if same_note note.entry.letter note.entry.octave l o
         then Some accidental
@@ -140,7 +140,7 @@ fn set_entry(entries: &mut [Option<Accidental>; ENTRIES], note: WrittenNote, acc
 }
 
 fn index_of(note: WrittenNote) -> usize
-    requires { IsNear note.octave }
+    requires { IsNearOctave note.octave }
     ensures value { result ≡ index_of note.entry.letter note.entry.octave }
     ensures within { result < 112 }
 {

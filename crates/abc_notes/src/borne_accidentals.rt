@@ -4,7 +4,7 @@ ghost use Rattle.abc_notes.specs.Events.{Event as AnyEvent};
 ghost use Rattle.abc_notes.specs.Inside.EventView.{event_of, written_note};
 ghost use Rattle.abc_notes.specs.Inside.KeptBar.{past_of};
 ghost use Rattle.abc_notes.specs.Pitches.{borne, is_at, accidental_of_note};
-ghost use Rattle.abc_notes.specs.Inside.BarTables.{IsBarAfter, IsNear};
+ghost use Rattle.abc_notes.specs.Inside.BarTables.{IsBarAfter, IsNearOctave};
 
 use crate::bar::{Bar, entry, is_near, letter_number};
 use crate::events::{Event, WrittenNote};
@@ -56,7 +56,7 @@ fn borne_at(bar: &Bar, bar_events: &TuneEvents, note: WrittenNote) -> Option<Acc
 #[inline(never)]
 fn borne_far(bar: &Bar, bar_events: &TuneEvents, note: WrittenNote) -> Option<Accidental>
     requires kept { IsBarAfter (past_of bar.now.since bar_events.now) bar.now }
-    requires far { IsNear note.octave → ⊥ }
+    requires far { IsNearOctave note.octave → ⊥ }
     ensures { result
         ≡ borne (past_of bar.now.since bar_events.now) note.entry.letter note.entry.octave }
 {

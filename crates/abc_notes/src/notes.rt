@@ -10,11 +10,11 @@ ghost use Rattle.abc_keys.specs.Keys.{signature_of};
 ghost use Rattle.abc_keys.specs.declared.signatures.Signature.{Signature as AnySignature};
 ghost use Rattle.abc_notes.specs.Events.{Event as AnyEvent, WrittenNote as AnyNote};
 ghost use Rattle.abc_notes.specs.Events.{bar as bar_line};
-ghost use Rattle.abc_notes.specs.Inside.EventView.{event_of, notes_in, written_note};
+ghost use Rattle.abc_notes.specs.Inside.EventView.{event_of, notes_of_token, written_note};
 ghost use Rattle.abc_notes.specs.Music.{line_events, music_events, tune_events, tune_signature};
 ghost use Rattle.abc_notes.specs.Pitches.{SoundedNote, sounded, sounded_notes, counting};
 ghost use Rattle.abc_notes.specs.Pitches.{FollowsTheRule};
-ghost use Rattle.abc_notes.specs.Inside.KeptBar.{notes_left, asked_of, IsKeptBar};
+ghost use Rattle.abc_notes.specs.Inside.KeptBar.{notes_left, asked_notes, IsKeptBar};
 ghost use Rattle.abc_notes.specs.NoteParts.{AreNoteParts, NotesRise};
 ghost use Rattle.abc_notes.specs.HeardLines.{AreGiven};
 ghost use Rattle.abc_notes.specs.Inside.BarTables.{IsBarAfter};
@@ -112,7 +112,7 @@ impl<'a> Notes<'a> {
     // Takes the first note that is left; or, where not all are asked for, the first that counts.
     #[inline(always)]
     fn first_note(&mut self, all: bool) -> Option<NoteToken<'a>>
-        ensures { YieldsFirstBy token_note (asked_of all) self.old result self.new }
+        ensures { YieldsFirstBy token_note (asked_notes all) self.old result self.new }
     {
         let note = plain_note(&mut self.bar, &mut self.bar_events, &mut self.events, all);
         if note.is_some() {
@@ -125,7 +125,7 @@ impl<'a> Notes<'a> {
     // is short.
     #[inline(never)]
     fn searched_note(&mut self, all: bool) -> Option<NoteToken<'a>>
-        ensures { YieldsFirstBy token_note (asked_of all) self.old result self.new }
+        ensures { YieldsFirstBy token_note (asked_notes all) self.old result self.new }
     {
         'events: loop {
             let Some(event) = self.events.next() else {
@@ -202,8 +202,8 @@ fn plain_note<'a>(
 ) -> Option<NoteToken<'a>>
     requires { IsKeptBar bar.old bar_events.old events.old }
     ensures kept { IsKeptBar bar.new bar_events.new events.new }
-    ensures notes { asked_of all (notes_left bar.old bar_events.old events.old)
-        ≡ notes_in result ++ asked_of all (notes_left bar.new bar_events.new events.new) }
+    ensures notes { asked_notes all (notes_left bar.old bar_events.old events.old)
+        ≡ notes_of_token result ++ asked_notes all (notes_left bar.new bar_events.new events.new) }
     ensures shorter { length events.new ≤ length events.old }
 {
     'events: loop {
@@ -229,9 +229,9 @@ fn heard<'a>(
 ) -> Option<NoteToken<'a>>
     requires { IsKeptBar bar.old bar_events.old (event_of event ∷ events.now) }
     ensures kept { IsKeptBar bar.new bar_events.new events.now }
-    ensures notes { asked_of all (notes_left bar.old bar_events.old
+    ensures notes { asked_notes all (notes_left bar.old bar_events.old
         (event_of event.entry ∷ events.now))
-        ≡ notes_in result ++ asked_of all (notes_left bar.new bar_events.new events.now) }
+        ≡ notes_of_token result ++ asked_notes all (notes_left bar.new bar_events.new events.now) }
 {
     match event {
         Event::Note(note) => {

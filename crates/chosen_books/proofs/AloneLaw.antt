@@ -15,7 +15,7 @@ use Rattle.abc_fields.specs.declared.book.BookFault.TheVariants.{BadTune}
 use Rattle.abc_fields.specs.declared.book.TuneFault.TheVariants.{NoKey, TooLong}
 use Rattle.abc_fields.specs.declared.book.TuneFault.{TuneFault}
 use Rattle.abc_fields.proofs.LineLaw.{pieces_of_line}
-use Rattle.told_books.specs.ToldTunes.{fault_of}
+use Rattle.told_books.specs.ToldTunes.{fault_of_tune}
 use Rattle.abc_fields.specs.declared.book.BookFault.{BookFault}
 use Rattle.chosen_books.specs.Inside.Fronts.{AllPlain, IsCarriedLine, IsJudged}
 
@@ -112,7 +112,7 @@ abbrev pub answer_by : Option TuneFault → List ℕ → Texts
 answer_by None text = Ok (text ∷ [])
 answer_by (Some fault) text = Err (BadTune 1 fault)
 
-by_fault : (longest : ℕ) (run : List (List ℕ)) → runs_answer longest 1 (run ∷ []) ≡ answer_by (fault_of longest run) (joined run)
+by_fault : (longest : ℕ) (run : List (List ℕ)) → runs_answer longest 1 (run ∷ []) ≡ answer_by (fault_of_tune longest run) (joined run)
 by_fault longest run = by (has_key run) (ltb longest (length (joined run)))
   where
     by : (keyed long : Bool) → cond (not keyed) (Err (BadTune 1 NoKey)) (cond long (Err (BadTune 1 TooLong)) (Ok (joined run ∷ [])))
@@ -122,7 +122,7 @@ by_fault longest run = by (has_key run) (ltb longest (length (joined run)))
     by true false = refl
 
 pub alone_answer : (longest : ℕ) (book : List ℕ) (run : List (List ℕ)) → book_runs book ≡ run ∷ [] → length book ≤ longest_book
-    → book_answer longest book ≡ answer_by (fault_of longest run) (joined run)
+    → book_answer longest book ≡ answer_by (fault_of_tune longest run) (joined run)
 alone_answer longest book run runs short =
     rw (le-ltb longest_book (length book) short) (ap (book_of_runs longest) runs ∙ by_fault longest run)
 
@@ -132,11 +132,11 @@ texts_by None text texts e = (refl, let h : Ok (text ∷ []) ≡ Ok texts = e in
 texts_by (Some fault) text texts e = absurd (let h : Err (BadTune 1 fault) ≡ Ok texts = e in cc)
 
 pub judged_ok : (longest : ℕ) (lines : List (List ℕ)) (book : List ℕ) (texts : List (List ℕ)) → book_runs book ≡ lines ∷ [] → length book ≤ longest_book
-    → book_answer longest book ≡ Ok texts → (fault_of longest lines ≡ None) × (texts ≡ joined lines ∷ [])
+    → book_answer longest book ≡ Ok texts → (fault_of_tune longest lines ≡ None) × (texts ≡ joined lines ∷ [])
 judged_ok longest lines book texts runs short e =
-    texts_by (fault_of longest lines) (joined lines) texts (sym (alone_answer longest book lines runs short) ∙ e)
+    texts_by (fault_of_tune longest lines) (joined lines) texts (sym (alone_answer longest book lines runs short) ∙ e)
 
-fault_by : (longest : ℕ) (lines : List (List ℕ)) (own : Option TuneFault) (text : List ℕ) (fault : BookFault) → fault_of longest lines ≡ own
+fault_by : (longest : ℕ) (lines : List (List ℕ)) (own : Option TuneFault) (text : List ℕ) (fault : BookFault) → fault_of_tune longest lines ≡ own
     → answer_by own text ≡ Err fault → IsJudged longest lines (Err fault)
 fault_by longest lines None text fault same e = absurd (let h : Ok (text ∷ []) ≡ Err fault = e in cc)
 fault_by longest lines (Some own) text fault same e =
@@ -146,4 +146,4 @@ fault_by longest lines (Some own) text fault same e =
 pub judged_err : (longest : ℕ) (lines : List (List ℕ)) (book : List ℕ) (fault : BookFault) → book_runs book ≡ lines ∷ [] → length book ≤ longest_book
     → book_answer longest book ≡ Err fault → IsJudged longest lines (Err fault)
 judged_err longest lines book fault runs short e =
-    fault_by longest lines (fault_of longest lines) (joined lines) fault refl (sym (alone_answer longest book lines runs short) ∙ e)
+    fault_by longest lines (fault_of_tune longest lines) (joined lines) fault refl (sym (alone_answer longest book lines runs short) ∙ e)

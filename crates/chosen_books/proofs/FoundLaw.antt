@@ -13,12 +13,13 @@ use Rattle.abc_fields.specs.declared.book.BookFault.{BookFault}
 use Rattle.abc_fields.specs.declared.book.BookFault.TheVariants.{BookTooLong, NoTune, BadTune, OutOfMemory}
 use Rattle.chosen_books.proofs.FrontLaw.{front_same}
 use Rattle.told_books.specs.Fates.{book_lines, fates_of}
-use Rattle.told_books.specs.ToldTunes.{fault_of}
+use Rattle.told_books.specs.ToldTunes.{fault_of_tune}
 use Rattle.told_books.specs.ToldTunes as told
 use Rattle.told_books.specs.declared.fates.Fate.{Fate}
 use Rattle.told_books.specs.declared.tunes.ToldTune.{ToldTune}
-use Rattle.chosen_books.specs.BookTunes.{BookTune, Passed, behind_line, behind_start, book_tunes, is_between, nothing_passed, tune_here, tunes_from}
-use Rattle.chosen_books.specs.ChosenTunes.{bad_or, bad_tunes, good_or, good_tunes}
+use Rattle.chosen_books.specs.BookTunes.{BookTune, Passed, behind_line, behind_start, book_tunes, is_carried_between, nothing_passed, tune_here}
+use Rattle.chosen_books.specs.BookTunes.{book_tunes_from}
+use Rattle.chosen_books.specs.ChosenTunes.{with_left_out, bad_tunes, good_or, good_tunes}
 use Rattle.chosen_books.specs.Inside.Fronts.{AllPlain, IsFront, OnMemory}
 use Rattle.chosen_books.specs.declared.found_tunes.FoundTunes.{FoundTunes}
 use Rattle.chosen_books.specs.declared.found_tunes.GoodTune.{GoodTune}
@@ -30,7 +31,7 @@ good_first : (fault : Option TuneFault) (tune : BookTune) (later : List GoodTune
 good_first None tune later = refl
 good_first (Some fault) tune later = refl
 
-bad_first : (fault : Option TuneFault) (tune : BookTune) (later : List LeftOut) → bad_or fault tune later ≡ bad_or fault tune [] ++ later
+bad_first : (fault : Option TuneFault) (tune : BookTune) (later : List LeftOut) → with_left_out fault tune later ≡ with_left_out fault tune [] ++ later
 bad_first None tune later = refl
 bad_first (Some fault) tune later = refl
 
@@ -44,11 +45,11 @@ pub record IsFound (carry : Bool) (longest : ℕ) (book : List ℕ) (i : ℕ) (l
   pub few : tunes ≤ i
   pub some : carried ≤ i
   pub carries : IsFront (file_header (book_lines book)) at.between ahead
-  pub good : found.good.items ++ good_tunes longest (tunes_from carry (file_header (book_lines book)) at (drop i (fates_of (book_lines book))) left)
+  pub good : found.good.items ++ good_tunes longest (book_tunes_from carry (file_header (book_lines book)) at (drop i (fates_of (book_lines book))) left)
       ≡ good_tunes longest (book_tunes carry book)
-  pub bad : found.bad.items ++ bad_tunes longest (tunes_from carry (file_header (book_lines book)) at (drop i (fates_of (book_lines book))) left)
+  pub bad : found.bad.items ++ bad_tunes longest (book_tunes_from carry (file_header (book_lines book)) at (drop i (fates_of (book_lines book))) left)
       ≡ bad_tunes longest (book_tunes carry book)
-  pub told : drop tunes rows ≡ told.tunes_from longest (file_header (book_lines book)) (i + 1) left
+  pub told : drop tunes rows ≡ told.told_tunes_from longest (file_header (book_lines book)) (i + 1) left
   pub plain : AllPlain left
 
 -- what is left of a book, of which the next line has this fate
@@ -58,34 +59,36 @@ pub record IsNext (book : List ℕ) (i : ℕ) (left : List (List ℕ)) (fate : F
 
 tunes_other : (carry : Bool) (header : List (List ℕ)) (at : Passed) (fate : Fate) (fates : List Fate) (line : List ℕ) (rest : List (List ℕ))
     → is_tune_start line ≡ false
-    → tunes_from carry header at (fate ∷ fates) (line ∷ rest) ≡ tunes_from carry header (behind_line (is_between carry fate line) line at) fates rest
+    → book_tunes_from carry header at (fate ∷ fates) (line ∷ rest)
+    ≡ book_tunes_from carry header (behind_line (is_carried_between carry fate line) line at) fates rest
 tunes_other carry header at fate fates line rest fails = rw fails refl
 
 tunes_start : (carry : Bool) (header : List (List ℕ)) (at : Passed) (fate : Fate) (fates : List Fate) (line : List ℕ) (rest : List (List ℕ))
     → is_tune_start line ≡ true
-    → tunes_from carry header at (fate ∷ fates) (line ∷ rest) ≡ tune_here header at rest ∷ tunes_from carry header (behind_start at) fates rest
+    → book_tunes_from carry header at (fate ∷ fates) (line ∷ rest) ≡ tune_here header at rest ∷ book_tunes_from carry header (behind_start at) fates rest
 tunes_start carry header at fate fates line rest holds = rw holds refl
 
 rows_other : (longest number : ℕ) (header : List (List ℕ)) (line : List ℕ) (rest : List (List ℕ)) → is_tune_start line ≡ false
-    → told.tunes_from longest header number (line ∷ rest) ≡ told.tunes_from longest header (number + 1) rest
+    → told.told_tunes_from longest header number (line ∷ rest) ≡ told.told_tunes_from longest header (number + 1) rest
 rows_other longest number header line rest fails = rw fails refl
 
 rows_start : (longest number : ℕ) (header : List (List ℕ)) (line : List ℕ) (rest : List (List ℕ)) → is_tune_start line ≡ true
-    → told.tunes_from longest header number (line ∷ rest)
-    ≡ record { line = number; fault = fault_of longest (with_header header (tune_run rest)) } ∷ told.tunes_from longest header (number + 1) rest
+    → told.told_tunes_from longest header number (line ∷ rest)
+    ≡ record { line = number; fault = fault_of_tune longest (with_header header (tune_run rest)) } ∷ told.told_tunes_from longest header (number + 1) rest
 rows_start longest number header line rest holds = rw holds refl
 
 -- a line that starts no tune and is not carried
 pub found_other : (carry : Bool) (longest : ℕ) (book : List ℕ) (i : ℕ) (left : List (List ℕ)) (ahead : front.Front) (found : FoundTunes) (tunes carried : ℕ)
     (rows : List ToldTune) (fate : Fate) (line : List ℕ) (rest : List (List ℕ)) → IsFound carry longest book i left ahead found tunes carried rows
-    → IsNext book i left fate line rest → is_tune_start line ≡ false → is_between carry fate line ≡ false
+    → IsNext book i left fate line rest → is_tune_start line ≡ false → is_carried_between carry fate line ≡ false
     → IsFound carry longest book (i + 1) rest ahead found tunes carried rows
 found_other carry longest book i left ahead found tunes carried rows fate line rest was next fails none =
     let header = file_header (book_lines book) in
     let fates = drop (i + 1) (fates_of (book_lines book)) in
-    let same : tunes_from carry header was.at (drop i (fates_of (book_lines book))) left ≡ tunes_from carry header (behind_line false line was.at) fates rest =
-    ap (λ fs. tunes_from carry header was.at fs left) next.fates ∙ ap (tunes_from carry header was.at (fate ∷ fates)) next.lines
-    ∙ tunes_other carry header was.at fate fates line rest fails ∙ ap (λ b. tunes_from carry header (behind_line b line was.at) fates rest) none in
+    let same : book_tunes_from carry header was.at (drop i (fates_of (book_lines book))) left
+    ≡ book_tunes_from carry header (behind_line false line was.at) fates rest =
+    ap (λ fs. book_tunes_from carry header was.at fs left) next.fates ∙ ap (book_tunes_from carry header was.at (fate ∷ fates)) next.lines
+    ∙ tunes_other carry header was.at fate fates line rest fails ∙ ap (λ b. book_tunes_from carry header (behind_line b line was.at) fates rest) none in
     let plain : AllPlain (line ∷ rest) = subst AllPlain next.lines was.plain in
     record {
       at = behind_line false line was.at;
@@ -97,22 +100,23 @@ found_other carry longest book i left ahead found tunes carried rows fate line r
       carries = was.carries;
       good = ap (λ ts. found.good.items ++ good_tunes longest ts) (sym same) ∙ was.good;
       bad = ap (λ ts. found.bad.items ++ bad_tunes longest ts) (sym same) ∙ was.bad;
-      told = was.told ∙ ap (told.tunes_from longest header (i + 1)) next.lines ∙ rows_other longest (i + 1) header line rest fails;
+      told = was.told ∙ ap (told.told_tunes_from longest header (i + 1)) next.lines ∙ rows_other longest (i + 1) header line rest fails;
       plain = plain.1;
     }
 
 -- a line that is carried
 pub found_between : (carry : Bool) (longest : ℕ) (book : List ℕ) (i : ℕ) (left : List (List ℕ)) (old new : front.Front) (found : FoundTunes) (tunes carried : ℕ)
     (rows : List ToldTune) (fate : Fate) (line : List ℕ) (rest : List (List ℕ)) (was : IsFound carry longest book i left old found tunes carried rows)
-    → IsNext book i left fate line rest → is_tune_start line ≡ false → is_between carry fate line ≡ true
+    → IsNext book i left fate line rest → is_tune_start line ≡ false → is_carried_between carry fate line ≡ true
     → IsFront (file_header (book_lines book)) (was.at.between ++ line ∷ []) new
     → IsFound carry longest book (i + 1) rest new found tunes (carried + 1) rows
 found_between carry longest book i left old new found tunes carried rows fate line rest was next fails some more =
     let header = file_header (book_lines book) in
     let fates = drop (i + 1) (fates_of (book_lines book)) in
-    let same : tunes_from carry header was.at (drop i (fates_of (book_lines book))) left ≡ tunes_from carry header (behind_line true line was.at) fates rest =
-    ap (λ fs. tunes_from carry header was.at fs left) next.fates ∙ ap (tunes_from carry header was.at (fate ∷ fates)) next.lines
-    ∙ tunes_other carry header was.at fate fates line rest fails ∙ ap (λ b. tunes_from carry header (behind_line b line was.at) fates rest) some in
+    let same : book_tunes_from carry header was.at (drop i (fates_of (book_lines book))) left
+    ≡ book_tunes_from carry header (behind_line true line was.at) fates rest =
+    ap (λ fs. book_tunes_from carry header was.at fs left) next.fates ∙ ap (book_tunes_from carry header was.at (fate ∷ fates)) next.lines
+    ∙ tunes_other carry header was.at fate fates line rest fails ∙ ap (λ b. book_tunes_from carry header (behind_line b line was.at) fates rest) some in
     let plain : AllPlain (line ∷ rest) = subst AllPlain next.lines was.plain in
     record {
       at = behind_line true line was.at;
@@ -124,7 +128,7 @@ found_between carry longest book i left old new found tunes carried rows fate li
       carries = more;
       good = ap (λ ts. found.good.items ++ good_tunes longest ts) (sym same) ∙ was.good;
       bad = ap (λ ts. found.bad.items ++ bad_tunes longest ts) (sym same) ∙ was.bad;
-      told = was.told ∙ ap (told.tunes_from longest header (i + 1)) next.lines ∙ rows_other longest (i + 1) header line rest fails;
+      told = was.told ∙ ap (told.told_tunes_from longest header (i + 1)) next.lines ∙ rows_other longest (i + 1) header line rest fails;
       plain = plain.1;
     }
 
@@ -138,16 +142,17 @@ pub found_start : (carry : Bool) (longest : ℕ) (book : List ℕ) (i : ℕ) (le
     (tunes carried : ℕ) (rows : List ToldTune) (fate : Fate) (line : List ℕ) (rest : List (List ℕ)) (number : ℕ)
     (was : IsFound carry longest book i left old before tunes carried rows)
     → IsNext book i left fate line rest → is_tune_start line ≡ true → number ≡ i + 1
-    → drop (tunes + 1) rows ≡ told.tunes_from longest (file_header (book_lines book)) (i + 1 + 1) rest
+    → drop (tunes + 1) rows ≡ told.told_tunes_from longest (file_header (book_lines book)) (i + 1 + 1) rest
     → new.bytes.items ≡ old.bytes.items → new.begin ≡ old.begin
-    → found.good.items ≡ before.good.items ++ good_or (fault_of longest (with_header (file_header (book_lines book) ++ was.at.between) (tune_run rest)))
+    → found.good.items ≡ before.good.items ++ good_or (fault_of_tune longest (with_header (file_header (book_lines book) ++ was.at.between) (tune_run rest)))
     (record {
       place = tunes + 1;
       line = number;
       lines = with_header (file_header (book_lines book) ++ was.at.between) (tune_run rest);
       carried = carried;
     }) []
-    → found.bad.items ≡ before.bad.items ++ bad_or (fault_of longest (with_header (file_header (book_lines book) ++ was.at.between) (tune_run rest)))
+    → found.bad.items ≡ before.bad.items
+    ++ with_left_out (fault_of_tune longest (with_header (file_header (book_lines book) ++ was.at.between) (tune_run rest)))
     (record {
       place = tunes + 1;
       line = number;
@@ -159,10 +164,10 @@ found_start carry longest book i left old new before found tunes carried rows fa
     let header = file_header (book_lines book) in
     let fates = drop (i + 1) (fates_of (book_lines book)) in
     let here = tune_here header was.at rest in
-    let later = tunes_from carry header (behind_start was.at) fates rest in
-    let fault = fault_of longest here.lines in
-    let same : tunes_from carry header was.at (drop i (fates_of (book_lines book))) left ≡ here ∷ later =
-    ap (λ fs. tunes_from carry header was.at fs left) next.fates ∙ ap (tunes_from carry header was.at (fate ∷ fates)) next.lines
+    let later = book_tunes_from carry header (behind_start was.at) fates rest in
+    let fault = fault_of_tune longest here.lines in
+    let same : book_tunes_from carry header was.at (drop i (fates_of (book_lines book))) left ≡ here ∷ later =
+    ap (λ fs. book_tunes_from carry header was.at fs left) next.fates ∙ ap (book_tunes_from carry header was.at (fate ∷ fates)) next.lines
     ∙ tunes_start carry header was.at fate fates line rest starts in
     let tune = tune_same (tunes + 1) (was.at.tunes + 1) number was.at.line carried (length was.at.between) here.lines
     (omega (arith, was.count)) (omega (arith, was.line, same_line)) (sym was.lines) in
@@ -179,8 +184,8 @@ found_start carry longest book i left old new before found tunes carried rows fa
           ∙ append_assoc before.good.items (good_or fault here []) (good_tunes longest later)
           ∙ ap (λ ts. before.good.items ++ ts) (sym (good_first fault here (good_tunes longest later)))
           ∙ ap (λ ts. before.good.items ++ good_tunes longest ts) (sym same) ∙ was.good;
-      bad = ap (λ ts. ts ++ bad_tunes longest later) (bad ∙ ap (λ t. before.bad.items ++ bad_or fault t []) tune)
-          ∙ append_assoc before.bad.items (bad_or fault here []) (bad_tunes longest later)
+      bad = ap (λ ts. ts ++ bad_tunes longest later) (bad ∙ ap (λ t. before.bad.items ++ with_left_out fault t []) tune)
+          ∙ append_assoc before.bad.items (with_left_out fault here []) (bad_tunes longest later)
           ∙ ap (λ ts. before.bad.items ++ ts) (sym (bad_first fault here (bad_tunes longest later)))
           ∙ ap (λ ts. before.bad.items ++ bad_tunes longest ts) (sym same) ∙ was.bad;
       told = behind;
@@ -190,8 +195,8 @@ found_start carry longest book i left old new before found tunes carried rows fa
 -- the row of a tune
 pub record IsRow (longest : ℕ) (header : List (List ℕ)) (i tunes : ℕ) (rows : List ToldTune) (rest : List (List ℕ)) : Type 0 where
   pub later : List ToldTune
-  pub first : drop tunes rows ≡ record { line = i + 1; fault = fault_of longest (with_header header (tune_run rest)) } ∷ later
-  pub behind : later ≡ told.tunes_from longest header (i + 1 + 1) rest
+  pub first : drop tunes rows ≡ record { line = i + 1; fault = fault_of_tune longest (with_header header (tune_run rest)) } ∷ later
+  pub behind : later ≡ told.told_tunes_from longest header (i + 1 + 1) rest
 
 pub row_of : (carry : Bool) (longest : ℕ) (book : List ℕ) (i : ℕ) (left : List (List ℕ)) (ahead : front.Front) (found : FoundTunes)
     (tunes carried : ℕ) (rows : List ToldTune) (fate : Fate) (line : List ℕ) (rest : List (List ℕ))
@@ -200,16 +205,16 @@ pub row_of : (carry : Bool) (longest : ℕ) (book : List ℕ) (i : ℕ) (left : 
 row_of carry longest book i left ahead found tunes carried rows fate line rest was next starts =
     let header = file_header (book_lines book) in
     record {
-      later = told.tunes_from longest header (i + 1 + 1) rest;
-      first = was.told ∙ ap (told.tunes_from longest header (i + 1)) next.lines ∙ rows_start longest (i + 1) header line rest starts;
+      later = told.told_tunes_from longest header (i + 1 + 1) rest;
+      first = was.told ∙ ap (told.told_tunes_from longest header (i + 1)) next.lines ∙ rows_start longest (i + 1) header line rest starts;
       behind = refl;
     }
 
 -- AT THE END
 pub tunes_end : (carry : Bool) (header : List (List ℕ)) (at : Passed) (fates : List Fate) (left : List (List ℕ)) → left ≡ []
-    → tunes_from carry header at fates left ≡ []
+    → book_tunes_from carry header at fates left ≡ []
 tunes_end carry header at [] left none = refl
-tunes_end carry header at (fate ∷ fates) left none = ap (tunes_from carry header at (fate ∷ fates)) none
+tunes_end carry header at (fate ∷ fates) left none = ap (book_tunes_from carry header at (fate ∷ fates)) none
 
 -- a fact holds where memory did not run out
 pub memory_left : (answer : Result (List ℕ) BookFault) (fact : Type 0) → OnMemory answer fact → answer ≢ Err OutOfMemory → fact
@@ -222,14 +227,14 @@ memory_left (Err OutOfMemory) fact holds left = absurd (left refl)
 -- no line is left
 pub good_end : (carry : Bool) (longest : ℕ) (book : List ℕ) (i : ℕ) (left : List (List ℕ)) (ahead : front.Front) (found : FoundTunes) (tunes carried : ℕ)
     (rows : List ToldTune) → (was : IsFound carry longest book i left ahead found tunes carried rows)
-    → tunes_from carry (file_header (book_lines book)) was.at (drop i (fates_of (book_lines book))) left ≡ []
+    → book_tunes_from carry (file_header (book_lines book)) was.at (drop i (fates_of (book_lines book))) left ≡ []
     → found.good.items ≡ good_tunes longest (book_tunes carry book)
 good_end carry longest book i left ahead found tunes carried rows was none =
     sym (append-nil found.good.items) ∙ ap (λ ts. found.good.items ++ good_tunes longest ts) (sym none) ∙ was.good
 
 pub bad_end : (carry : Bool) (longest : ℕ) (book : List ℕ) (i : ℕ) (left : List (List ℕ)) (ahead : front.Front) (found : FoundTunes) (tunes carried : ℕ)
     (rows : List ToldTune) → (was : IsFound carry longest book i left ahead found tunes carried rows)
-    → tunes_from carry (file_header (book_lines book)) was.at (drop i (fates_of (book_lines book))) left ≡ []
+    → book_tunes_from carry (file_header (book_lines book)) was.at (drop i (fates_of (book_lines book))) left ≡ []
     → found.bad.items ≡ bad_tunes longest (book_tunes carry book)
 bad_end carry longest book i left ahead found tunes carried rows was none =
     sym (append-nil found.bad.items) ∙ ap (λ ts. found.bad.items ++ bad_tunes longest ts) (sym none) ∙ was.bad
@@ -237,7 +242,7 @@ bad_end carry longest book i left ahead found tunes carried rows was none =
 -- at the first line
 pub found_first : (carry : Bool) (longest : ℕ) (book : List ℕ) (left : List (List ℕ)) (ahead : front.Front) (found : FoundTunes) → left ≡ book_lines book
     → AllPlain (book_lines book) → IsFront (file_header (book_lines book)) [] ahead → found.good.items ≡ [] → found.bad.items ≡ []
-    → IsFound carry longest book 0 left ahead found 0 0 (told.tunes_from longest (file_header (book_lines book)) 1 (book_lines book))
+    → IsFound carry longest book 0 left ahead found 0 0 (told.told_tunes_from longest (file_header (book_lines book)) 1 (book_lines book))
 found_first carry longest book left ahead found whole plain carries good bad =
     let header = file_header (book_lines book) in
     record {
@@ -248,11 +253,11 @@ found_first carry longest book left ahead found whole plain carries good bad =
       few = omega arith;
       some = omega arith;
       carries = carries;
-      good = ap (λ ts. ts ++ good_tunes longest (tunes_from carry header nothing_passed (fates_of (book_lines book)) left)) good
-          ∙ ap (λ ls. good_tunes longest (tunes_from carry header nothing_passed (fates_of (book_lines book)) ls)) whole;
-      bad = ap (λ ts. ts ++ bad_tunes longest (tunes_from carry header nothing_passed (fates_of (book_lines book)) left)) bad
-          ∙ ap (λ ls. bad_tunes longest (tunes_from carry header nothing_passed (fates_of (book_lines book)) ls)) whole;
-      told = ap (told.tunes_from longest header 1) (sym whole);
+      good = ap (λ ts. ts ++ good_tunes longest (book_tunes_from carry header nothing_passed (fates_of (book_lines book)) left)) good
+          ∙ ap (λ ls. good_tunes longest (book_tunes_from carry header nothing_passed (fates_of (book_lines book)) ls)) whole;
+      bad = ap (λ ts. ts ++ bad_tunes longest (book_tunes_from carry header nothing_passed (fates_of (book_lines book)) left)) bad
+          ∙ ap (λ ls. bad_tunes longest (book_tunes_from carry header nothing_passed (fates_of (book_lines book)) ls)) whole;
+      told = ap (told.told_tunes_from longest header 1) (sym whole);
       plain = subst AllPlain (sym whole) plain;
     }
 
@@ -268,7 +273,7 @@ next_of book items i left line rest same short lines = record {
 }
 
 -- a line between tunes engraves
-pub between_engraves : (carry : Bool) (fate : Fate) (line : List ℕ) → is_between carry fate line ≡ true → engraves line ≡ true
+pub between_engraves : (carry : Bool) (fate : Fate) (line : List ℕ) → is_carried_between carry fate line ≡ true → engraves line ≡ true
 between_engraves carry (Kept tune) line is = absurd (let h : false ≡ true = is in cc)
 between_engraves carry Carried line is = absurd (let h : false ≡ true = is in cc)
 between_engraves carry Blank line is = absurd (let h : false ≡ true = is in cc)
@@ -284,8 +289,8 @@ rest_same a b later others e = cc
 -- a tune that is told starts here
 pub record IsTold (longest : ℕ) (header : List (List ℕ)) (i tunes : ℕ) (rows : List ToldTune) (rest : List (List ℕ)) (tune : ToldTune) : Type 0 where
   pub number : tune.line ≡ i + 1
-  pub fault : tune.fault ≡ fault_of longest (with_header header (tune_run rest))
-  pub behind : drop (tunes + 1) rows ≡ told.tunes_from longest header (i + 1 + 1) rest
+  pub fault : tune.fault ≡ fault_of_tune longest (with_header header (tune_run rest))
+  pub behind : drop (tunes + 1) rows ≡ told.told_tunes_from longest header (i + 1 + 1) rest
 
 pub told_of : (carry : Bool) (longest : ℕ) (book : List ℕ) (i : ℕ) (left : List (List ℕ)) (ahead : front.Front) (found : FoundTunes)
     (tunes carried : ℕ) (rows items : List ToldTune) (fate : Fate) (line : List ℕ) (rest : List (List ℕ)) (tune : ToldTune)

@@ -21,7 +21,7 @@ use Rattle.chosen_books.proofs.AloneLaw.{alone_runs}
 use Rattle.abc_fields.specs.declared.book.TuneFault.TheVariants.{NoKey, TooLong}
 use Rattle.abc_fields.proofs.TuneLemmas.{key_before, before_length}
 use Rattle.told_books.specs.Fates.{engraves}
-use Rattle.told_books.specs.ToldTunes.{fault_of}
+use Rattle.told_books.specs.ToldTunes.{fault_of_tune}
 use Rattle.told_books.proofs.FaultLemmas.{no_key}
 use Rattle.abc_fields.specs.Lines.{has_no_ending}
 use Rattle.chosen_books.specs.Inside.Fronts.{AllEngrave, AllPlain, IsCarriedLine, IsFront}
@@ -82,7 +82,7 @@ pub record HasNone (longest : ℕ) (run : List (List ℕ)) : Type 0 where
   pub keyed : has_key run ≡ true
   pub fits : length (joined run) ≤ longest
 
-pub has_none : (longest : ℕ) (run : List (List ℕ)) → fault_of longest run ≡ None → HasNone longest run
+pub has_none : (longest : ℕ) (run : List (List ℕ)) → fault_of_tune longest run ≡ None → HasNone longest run
 has_none longest run none = by (has_key run) (ltb longest (length (joined run))) refl refl none
   where
     by : (keyed long : Bool) → has_key run ≡ keyed → ltb longest (length (joined run)) ≡ long
@@ -92,7 +92,7 @@ has_none longest run none = by (has_key run) (ltb longest (length (joined run)))
     by true false k l e = record { keyed = k; fits = ltb-false longest (length (joined run)) l }
 
 -- a tune that is good with its file header has a key of its own
-own_key : (longest : ℕ) (header run : List (List ℕ)) → fault_of longest (with_header header run) ≡ None → has_key run ≡ true
+own_key : (longest : ℕ) (header run : List (List ℕ)) → fault_of_tune longest (with_header header run) ≡ None → has_key run ≡ true
 own_key longest header run none = elim (cases_Bool (has_key run)) [
   | inl holds ↦ holds
   | inr fails ↦ absurd (let h : Some NoKey ≡ None = no_key longest header run fails ∙ none in cc)
@@ -103,13 +103,13 @@ whole_length : (header run : List (List ℕ)) → has_key run ≡ true
 whole_length header run keyed = before_length (carried (has_letter (header_of run)) Never header) run keyed
 
 -- its own lines fit
-pub own_fits : (longest : ℕ) (header run : List (List ℕ)) → fault_of longest (with_header header run) ≡ None → length (joined run) ≤ longest
+pub own_fits : (longest : ℕ) (header run : List (List ℕ)) → fault_of_tune longest (with_header header run) ≡ None → length (joined run) ≤ longest
 own_fits longest header run none =
     omega (arith, (has_none longest (with_header header run) none).fits, whole_length header run (own_key longest header run none))
 
 -- and with lines between tunes that are too long it is too long
-pub between_long : (longest : ℕ) (header between run : List (List ℕ)) → AllEngrave between → fault_of longest (with_header header run) ≡ None
-    → longest < length (joined between) → fault_of longest (with_header (header ++ between) run) ≡ Some TooLong
+pub between_long : (longest : ℕ) (header between run : List (List ℕ)) → AllEngrave between → fault_of_tune longest (with_header header run) ≡ None
+    → longest < length (joined between) → fault_of_tune longest (with_header (header ++ between) run) ≡ Some TooLong
 between_long longest header between run each none over =
     let keyed = own_key longest header run none in
     let owns = has_letter (header_of run) in
@@ -163,7 +163,7 @@ front_same header between old new is bytes begin =
 
 -- A TUNE THAT IS REFUSED
 longer_too : (longest : ℕ) (a b : List (List ℕ)) (fault : TuneFault) → has_key a ≡ true → has_key b ≡ true → length (joined a) ≤ length (joined b)
-    → fault_of longest a ≡ Some fault → fault_of longest b ≡ Some fault
+    → fault_of_tune longest a ≡ Some fault → fault_of_tune longest b ≡ Some fault
 longer_too longest a b fault first second longer is = elim (cases_Bool (ltb longest (length (joined a)))) [
   | inl over ↦ let e : Some TooLong ≡ Some fault = rw (first, over) at is in
       rw (second, lt-ltb longest (length (joined b)) (omega (arith, longer, ltb-true longest (length (joined a)) over))) e
@@ -172,7 +172,7 @@ longer_too longest a b fault first second longer is = elim (cases_Bool (ltb long
 
 -- it is refused with the lines between tunes too, by the same fault
 pub refused_too : (longest : ℕ) (header between run : List (List ℕ)) (fault : TuneFault) → AllEngrave between
-    → fault_of longest (with_header header run) ≡ Some fault → fault_of longest (with_header (header ++ between) run) ≡ Some fault
+    → fault_of_tune longest (with_header header run) ≡ Some fault → fault_of_tune longest (with_header (header ++ between) run) ≡ Some fault
 refused_too longest header between run fault each is = elim (cases_Bool (has_key run)) [
   | inl keyed ↦ let owns = has_letter (header_of run) in
       longer_too longest (with_header header run) (with_header (header ++ between) run) fault (key_before (carried owns Never header) run keyed)
@@ -204,7 +204,7 @@ front_runs header between run front book is tunes put =
 
 pub front_short : (longest : ℕ) (header between run : List (List ℕ)) (front : Front) (book : List ℕ) → IsFront header between front
     → book ≡ front.bytes.items ++ (codes "\nX:\n" ++ joined run) → longest ≤ longest_tune → length front.bytes.items ≤ front.begin + longest
-    → fault_of longest (with_header header run) ≡ None → length book ≤ longest_book
+    → fault_of_tune longest (with_header header run) ≡ None → length book ≤ longest_book
 front_short longest header between run front book is put few fits none =
     omega (
       arith,

@@ -9,7 +9,7 @@ use Rattle.abc_fields.specs.Books.{book_answer}
 use Rattle.tune_books.specs.WrittenBooks.{written_tune, written_tunes, written_book}
 use Rattle.chosen_books.specs.ChosenTunes.{GoIn, texts_of}
 use Rattle.chosen_books.specs.declared.found_tunes.GoodTune.{GoodTune}
-use Rattle.chosen_books.specs.Inside.WrittenParts.{AllFit, IsClosed}
+use Rattle.chosen_books.specs.Inside.WrittenParts.{TextsFit, IsClosed}
 
 -- BYTES
 tunes_more : (numbers : List ℕ) (texts : List (List ℕ)) (number : ℕ) (text : List ℕ) → length numbers ≡ length texts
@@ -44,11 +44,11 @@ pub one_longer : (xs : List ℕ) (ys : List (List ℕ)) (x : ℕ) (y : List ℕ)
 one_longer xs ys x y same = omega (arith, length-append xs (x ∷ []), length-append ys (y ∷ []))
 
 -- TEXTS THAT FIT
-pub fit_front : (longest : ℕ) (xs ys : List (List ℕ)) → AllFit longest (xs ++ ys) → AllFit longest xs
+pub fit_front : (longest : ℕ) (xs ys : List (List ℕ)) → TextsFit longest (xs ++ ys) → TextsFit longest xs
 fit_front longest [] ys fit = tt
 fit_front longest (x ∷ xs) ys fit = (fit.0, fit_front longest xs ys fit.1)
 
-pub fit_back : (longest : ℕ) (xs ys : List (List ℕ)) → AllFit longest (xs ++ ys) → AllFit longest ys
+pub fit_back : (longest : ℕ) (xs ys : List (List ℕ)) → TextsFit longest (xs ++ ys) → TextsFit longest ys
 fit_back longest [] ys fit = fit
 fit_back longest (x ∷ xs) ys fit = fit_back longest xs ys fit.1
 
@@ -90,9 +90,10 @@ closed_none longest done texts old new rest go empty same none = record {
 }
 
 -- what is left of the texts fits
-pub part_fits : (longest : ℕ) (all parts texts later : List (List ℕ)) → AllFit longest all → IsClosed longest all parts (texts ++ later) → AllFit longest texts
+pub part_fits : (longest : ℕ) (all parts texts later : List (List ℕ)) → TextsFit longest all → IsClosed longest all parts (texts ++ later)
+    → TextsFit longest texts
 part_fits longest all parts texts later fit was =
-    fit_front longest texts later (fit_back longest was.done (texts ++ later) (subst (AllFit longest) (sym was.whole) fit))
+    fit_front longest texts later (fit_back longest was.done (texts ++ later) (subst (TextsFit longest) (sym was.whole) fit))
 
 -- a text goes from what is left into the part
 pub closed_more : (longest : ℕ) (all old parts texts later rest more next : List (List ℕ)) (text : List ℕ) (was : IsClosed longest all old (texts ++ later))

@@ -16,13 +16,14 @@ use Rattle.abc_fields.specs.declared.book.BookFault.TheVariants.{BadTune, BookTo
 use Rattle.abc_fields.specs.declared.book.TuneFault.{TuneFault}
 use Rattle.abc_fields.specs.declared.book.TuneFault.TheVariants.{NoKey, TooLong}
 use Rattle.told_books.specs.Fates.{book_lines, fates_of}
-use Rattle.told_books.specs.ToldTunes.{fault_of}
+use Rattle.told_books.specs.ToldTunes.{fault_of_tune}
 use Rattle.told_books.specs.declared.fates.Fate.{Fate}
 use Rattle.told_books.specs.declared.fates.Fate.TheVariants.{Kept, Carried, Blank, Version, Dropped}
 use Rattle.told_books.proofs.KeptLaw.{fates_length}
-use Rattle.chosen_books.specs.BookTunes.{BookTune, Passed, behind_line, behind_start, book_tunes, is_between, nothing_passed, tune_here, tunes_from}
-use Rattle.chosen_books.specs.ChosenTunes.{bad_or, bad_tunes, carries_some, first_bad, good_or, good_tunes, most_carried, texts_of, tunes_refused}
-use Rattle.chosen_books.specs.ChosenTunes.{GoIn, chosen_tunes, is_too_long, longest_header, new_tunes, refusal, stays_whole}
+use Rattle.chosen_books.specs.BookTunes.{BookTune, Passed, behind_line, behind_start, book_tunes, is_carried_between, nothing_passed, tune_here}
+use Rattle.chosen_books.specs.BookTunes.{book_tunes_from}
+use Rattle.chosen_books.specs.ChosenTunes.{with_left_out, bad_tunes, carries_some, first_refused, good_or, good_tunes, most_carried, texts_of, tunes_refused}
+use Rattle.chosen_books.specs.ChosenTunes.{GoIn, chosen_tunes, is_book_too_long, longest_header, new_tunes, refusal, stays_whole}
 use Rattle.chosen_books.specs.declared.found_tunes.GoodTune.{GoodTune}
 use Rattle.chosen_books.specs.declared.found_tunes.LeftOut.{LeftOut}
 
@@ -30,7 +31,7 @@ use Rattle.chosen_books.specs.declared.found_tunes.LeftOut.{LeftOut}
 abbrev pub lines_in : List BookTune → List (List (List ℕ))
 lines_in tunes = map (λ tune. tune.lines) tunes
 
-none_between : (fate : Fate) (line : List ℕ) → is_between false fate line ≡ false
+none_between : (fate : Fate) (line : List ℕ) → is_carried_between false fate line ≡ false
 none_between (Kept tune) line = refl
 none_between Carried line = refl
 none_between Blank line = refl
@@ -42,7 +43,7 @@ here_same : (header : List (List ℕ)) (at : Passed) (lines : List (List ℕ)) �
 here_same header at lines none = ap (λ put. with_header put (tune_run lines)) (ap (λ ls. header ++ ls) none ∙ append-nil header)
 
 runs_from : (header : List (List ℕ)) (at : Passed) (fates : List Fate) (lines : List (List ℕ)) → at.between ≡ [] → length fates ≡ length lines
-    → lines_in (tunes_from false header at fates lines) ≡ map (with_header header) (tune_runs lines)
+    → lines_in (book_tunes_from false header at fates lines) ≡ map (with_header header) (tune_runs lines)
 runs_from header at [] [] none same = refl
 runs_from header at [] (line ∷ lines) none same = absurd (omega arith)
 runs_from header at (fate ∷ fates) [] none same = absurd (omega arith)
@@ -50,12 +51,12 @@ runs_from header at (fate ∷ fates) (line ∷ lines) none same =
     rw (none_between fate line) (by (runs_from header (behind_start at) fates lines none (omega arith))
     (runs_from header (behind_line false line at) fates lines none (omega arith)) (is_tune_start line))
   where
-    by : lines_in (tunes_from false header (behind_start at) fates lines) ≡ map (with_header header) (tune_runs lines)
-        → lines_in (tunes_from false header (behind_line false line at) fates lines) ≡ map (with_header header) (tune_runs lines)
-        → (b : Bool) → lines_in (cond b (tune_here header at lines ∷ tunes_from false header (behind_start at) fates lines)
-        (tunes_from false header (behind_line false line at) fates lines))
+    by : lines_in (book_tunes_from false header (behind_start at) fates lines) ≡ map (with_header header) (tune_runs lines)
+        → lines_in (book_tunes_from false header (behind_line false line at) fates lines) ≡ map (with_header header) (tune_runs lines)
+        → (b : Bool) → lines_in (cond b (tune_here header at lines ∷ book_tunes_from false header (behind_start at) fates lines)
+        (book_tunes_from false header (behind_line false line at) fates lines))
         ≡ map (with_header header) (cond b (tune_run lines ∷ tune_runs lines) (tune_runs lines))
-    by start other true = ap (λ run. run ∷ lines_in (tunes_from false header (behind_start at) fates lines)) (here_same header at lines none)
+    by start other true = ap (λ run. run ∷ lines_in (book_tunes_from false header (behind_start at) fates lines)) (here_same header at lines none)
         ∙ ap (λ runs. with_header header (tune_run lines) ∷ runs) start
     by start other false = other
 
@@ -70,17 +71,17 @@ AreOwn place [] = ⊤
 AreOwn place (tune ∷ tunes) = (tune.place ≡ place) × (tune.carried ≡ 0) × AreOwn (place + 1) tunes
 
 own_from : (header : List (List ℕ)) (at : Passed) (fates : List Fate) (lines : List (List ℕ)) → at.between ≡ []
-    → AreOwn (at.tunes + 1) (tunes_from false header at fates lines)
+    → AreOwn (at.tunes + 1) (book_tunes_from false header at fates lines)
 own_from header at [] lines none = tt
 own_from header at (fate ∷ fates) [] none = tt
 own_from header at (fate ∷ fates) (line ∷ lines) none =
     rw (none_between fate line) (by (own_from header (behind_start at) fates lines none) (own_from header (behind_line false line at) fates lines none)
     (is_tune_start line))
   where
-    by : AreOwn (at.tunes + 1 + 1) (tunes_from false header (behind_start at) fates lines)
-        → AreOwn (at.tunes + 1) (tunes_from false header (behind_line false line at) fates lines)
-        → (b : Bool) → AreOwn (at.tunes + 1) (cond b (tune_here header at lines ∷ tunes_from false header (behind_start at) fates lines)
-        (tunes_from false header (behind_line false line at) fates lines))
+    by : AreOwn (at.tunes + 1 + 1) (book_tunes_from false header (behind_start at) fates lines)
+        → AreOwn (at.tunes + 1) (book_tunes_from false header (behind_line false line at) fates lines)
+        → (b : Bool) → AreOwn (at.tunes + 1) (cond b (tune_here header at lines ∷ book_tunes_from false header (behind_start at) fates lines)
+        (book_tunes_from false header (behind_line false line at) fates lines))
     by start other true = (refl, ap length none, start)
     by start other false = other
 
@@ -96,7 +97,7 @@ most_step (Some fault) tune later own none = none
 pub none_most : (longest place : ℕ) (tunes : List BookTune) → AreOwn place tunes → most_carried (good_tunes longest tunes) ≡ 0
 none_most longest place [] own = refl
 none_most longest place (tune ∷ tunes) own =
-    most_step (fault_of longest tune.lines) tune (good_tunes longest tunes) own.1 (none_most longest (place + 1) tunes own.2)
+    most_step (fault_of_tune longest tune.lines) tune (good_tunes longest tunes) own.1 (none_most longest (place + 1) tunes own.2)
 
 some_step : (fault : Option TuneFault) (tune : BookTune) (later : List GoodTune) → tune.carried ≡ 0 → count_by carries_some later ≡ 0
     → count_by carries_some (good_or fault tune later) ≡ 0
@@ -107,7 +108,7 @@ some_step (Some fault) tune later own none = none
 pub none_carry : (longest place : ℕ) (tunes : List BookTune) → AreOwn place tunes → count_by carries_some (good_tunes longest tunes) ≡ 0
 none_carry longest place [] own = refl
 none_carry longest place (tune ∷ tunes) own =
-    some_step (fault_of longest tune.lines) tune (good_tunes longest tunes) own.1 (none_carry longest (place + 1) tunes own.2)
+    some_step (fault_of_tune longest tune.lines) tune (good_tunes longest tunes) own.1 (none_carry longest (place + 1) tunes own.2)
 
 -- THE ANSWER
 -- the texts of a book, unless it is refused
@@ -121,17 +122,17 @@ good_before None text texts = refl
 good_before (Some fault) text texts = refl
 
 tune_answers : (place : ℕ) (tune : BookTune) (keyed long : Bool) (later : Texts) (good : List GoodTune) (bad : List LeftOut) → tune.place ≡ place
-    → later ≡ answer_of (first_bad false bad) (texts_of good)
+    → later ≡ answer_of (first_refused false bad) (texts_of good)
     → cond (not keyed) (Err (BadTune place NoKey)) (cond long (Err (BadTune place TooLong)) (before_texts (joined tune.lines ∷ []) later))
-    ≡ answer_of (first_bad false (bad_or (cond (not keyed) (Some NoKey) (cond long (Some TooLong) None)) tune bad))
+    ≡ answer_of (first_refused false (with_left_out (cond (not keyed) (Some NoKey) (cond long (Some TooLong) None)) tune bad))
     (texts_of (good_or (cond (not keyed) (Some NoKey) (cond long (Some TooLong) None)) tune good))
 tune_answers place tune false long later good bad at e = ap (λ n. Err (BadTune n NoKey)) (sym at)
 tune_answers place tune true true later good bad at e = ap (λ n. Err (BadTune n TooLong)) (sym at)
 tune_answers place tune true false later good bad at e =
-    ap (before_texts (joined tune.lines ∷ [])) e ∙ good_before (first_bad false bad) (joined tune.lines) (texts_of good)
+    ap (before_texts (joined tune.lines ∷ [])) e ∙ good_before (first_refused false bad) (joined tune.lines) (texts_of good)
 
 answers_from : (longest place : ℕ) (tunes : List BookTune) → AreOwn place tunes
-    → runs_answer longest place (lines_in tunes) ≡ answer_of (first_bad false (bad_tunes longest tunes)) (texts_of (good_tunes longest tunes))
+    → runs_answer longest place (lines_in tunes) ≡ answer_of (first_refused false (bad_tunes longest tunes)) (texts_of (good_tunes longest tunes))
 answers_from longest place [] own = refl
 answers_from longest place (tune ∷ tunes) own =
     tune_answers place tune (has_key tune.lines) (ltb longest (length (joined tune.lines))) (runs_answer longest (place + 1) (lines_in tunes))
@@ -156,7 +157,7 @@ fault_then : (fault : Option BookFault) (own : List (List ℕ)) (told : BookFaul
 fault_then None own told e = absurd (let h : Ok own ≡ Err told = e in cc)
 fault_then (Some fault) own told e = let h : Err fault ≡ Err told = e in cc
 
-none_bad : (bad : List LeftOut) → first_bad false bad ≡ None → bad ≡ []
+none_bad : (bad : List LeftOut) → first_refused false bad ≡ None → bad ≡ []
 none_bad [] e = refl
 none_bad (tune ∷ bad) e = absurd (let h : Some (BadTune tune.place tune.fault) ≡ None = e in cc)
 
@@ -191,7 +192,7 @@ pub whole_refusal : (how : Adding) (longest : ℕ) (book : List ℕ) → stays_w
     → refusal how longest book ≡ tunes_refused false longest (book_tunes false book)
 whole_refusal how longest book whole =
     let is = is_whole how book whole in
-    let short : is_too_long how book ≡ false =
+    let short : is_book_too_long how book ≡ false =
     ap (λ b. (not how.split && b) || (not (stays_whole how book) && ltb longest_header (length (joined (file_header (book_lines book))))))
     (le-ltb longest_book (length book) is.short)
     ∙ ap (λ b. (not how.split && false) || (not b && ltb longest_header (length (joined (file_header (book_lines book)))))) whole

@@ -18,9 +18,9 @@ pub record BookTune : Type 0 where
 
 -- a line that is in no tune and no file header, and changes how a sheet is engraved: it is carried
 -- where this is asked for
-abbrev pub is_between : Bool → Fate → List ℕ → Bool
-is_between carry (Dropped directive) line = carry && engraves line
-is_between carry _ line = false
+abbrev pub is_carried_between : Bool → Fate → List ℕ → Bool
+is_carried_between carry (Dropped directive) line = carry && engraves line
+is_carried_between carry _ line = false
 
 -- how far a book is read: the number of the next line, how many tunes began before it, and the
 -- lines between these that the tunes behind carry
@@ -53,13 +53,15 @@ tune_here header at lines = record {
 }
 
 -- the tunes of lines with these fates
-abbrev pub tunes_from : Bool → List (List ℕ) → Passed → List Fate → List (List ℕ) → List BookTune
-tunes_from carry header at [] lines = []
-tunes_from carry header at (fate ∷ fates) [] = []
-tunes_from carry header at (fate ∷ fates) (line ∷ lines) =
+abbrev pub book_tunes_from : Bool → List (List ℕ) → Passed → List Fate → List (List ℕ)
+    → List BookTune
+book_tunes_from carry header at [] lines = []
+book_tunes_from carry header at (fate ∷ fates) [] = []
+book_tunes_from carry header at (fate ∷ fates) (line ∷ lines) =
     if is_tune_start line
-    then tune_here header at lines ∷ tunes_from carry header (behind_start at) fates lines
-    else tunes_from carry header (behind_line (is_between carry fate line) line at) fates lines
+    then tune_here header at lines ∷ book_tunes_from carry header (behind_start at) fates lines
+    else book_tunes_from carry header
+    (behind_line (is_carried_between carry fate line) line at) fates lines
 
 -- before the first line
 abbrev pub nothing_passed : Passed
@@ -69,4 +71,4 @@ nothing_passed = record { line = 1; tunes = 0; between = [] }
 abbrev pub book_tunes : Bool → List ℕ → List BookTune
 book_tunes carry book =
     let lines = book_lines book in
-    tunes_from carry (file_header lines) nothing_passed (fates_of lines) lines
+    book_tunes_from carry (file_header lines) nothing_passed (fates_of lines) lines

@@ -10,10 +10,10 @@ use Rattle.abc_fields.specs.declared.book.BookFault.{BookFault}
 use Rattle.abc_fields.specs.declared.book.BookFault.TheVariants.{BookTooLong, NoTune, BadTune}
 use Rattle.abc_fields.specs.declared.book.TuneFault.{TuneFault}
 use Rattle.told_books.specs.Fates.{book_lines}
-use Rattle.told_books.specs.ToldTunes.{fault_of}
+use Rattle.told_books.specs.ToldTunes.{fault_of_tune}
 use Rattle.desk_terms.specs.declared.adding.Adding.{Adding}
 use Rattle.chosen_books.specs.BookTunes.{BookTune, book_tunes}
-use Rattle.chosen_books.specs.KnownTexts.{is_known, with_text}
+use Rattle.chosen_books.specs.KnownTexts.{is_known, with_text_sum}
 use Rattle.chosen_books.specs.declared.found_tunes.GoodTune.{GoodTune}
 use Rattle.chosen_books.specs.declared.found_tunes.LeftOut.{LeftOut}
 
@@ -27,19 +27,19 @@ good_or (Some fault) tune later = later
 abbrev pub good_tunes : ℕ → List BookTune → List GoodTune
 good_tunes longest [] = []
 good_tunes longest (tune ∷ tunes) =
-    good_or (fault_of longest tune.lines) tune (good_tunes longest tunes)
+    good_or (fault_of_tune longest tune.lines) tune (good_tunes longest tunes)
 
 -- the same tune, before the bad ones behind it
-abbrev pub bad_or : Option TuneFault → BookTune → List LeftOut → List LeftOut
-bad_or None tune later = later
-bad_or (Some fault) tune later =
+abbrev pub with_left_out : Option TuneFault → BookTune → List LeftOut → List LeftOut
+with_left_out None tune later = later
+with_left_out (Some fault) tune later =
     record { place = tune.place; line = tune.line; fault = fault } ∷ later
 
 -- the other tunes, and why each is refused
 abbrev pub bad_tunes : ℕ → List BookTune → List LeftOut
 bad_tunes longest [] = []
 bad_tunes longest (tune ∷ tunes) =
-    bad_or (fault_of longest tune.lines) tune (bad_tunes longest tunes)
+    with_left_out (fault_of_tune longest tune.lines) tune (bad_tunes longest tunes)
 
 -- TUNES THAT ARE NEW
 -- this tune before later ones, unless its text is known
@@ -49,12 +49,12 @@ new_or sums tune later = if is_known sums tune.text then later else tune ∷ lat
 -- those whose texts are not known; behind each its text is known
 abbrev pub new_tunes : List (List ℕ) → List GoodTune → List GoodTune
 new_tunes sums [] = []
-new_tunes sums (tune ∷ tunes) = new_or sums tune (new_tunes (with_text sums tune.text) tunes)
+new_tunes sums (tune ∷ tunes) = new_or sums tune (new_tunes (with_text_sum sums tune.text) tunes)
 
 -- the sums of what is known behind these tunes
 abbrev pub sums_after : List (List ℕ) → List GoodTune → List (List ℕ)
 sums_after sums [] = sums
-sums_after sums (tune ∷ tunes) = sums_after (with_text sums tune.text) tunes
+sums_after sums (tune ∷ tunes) = sums_after (with_text_sum sums tune.text) tunes
 
 -- WHAT IS TAKEN IN
 -- the tunes of a book that are good, and, where only new ones are asked for, new
@@ -105,24 +105,24 @@ has_long_header how book = not (stays_whole how book)
     && nat_lt longest_header (length (joined (file_header (book_lines book))))
 
 -- whether a book is too long: without parts, or as its file header is
-abbrev pub is_too_long : Adding → List ℕ → Bool
-is_too_long how book =
+abbrev pub is_book_too_long : Adding → List ℕ → Bool
+is_book_too_long how book =
     (not how.split && nat_lt longest_book (length book)) || has_long_header how book
 
 -- the first tune that is refused, unless bad ones are to be left out
-abbrev pub first_bad : Bool → List LeftOut → Option BookFault
-first_bad leaves_out [] = None
-first_bad leaves_out (tune ∷ tunes) =
+abbrev pub first_refused : Bool → List LeftOut → Option BookFault
+first_refused leaves_out [] = None
+first_refused leaves_out (tune ∷ tunes) =
     if leaves_out then None else Some (BadTune tune.place tune.fault)
 
 -- a book of these tunes
 abbrev pub tunes_refused : Bool → ℕ → List BookTune → Option BookFault
 tunes_refused leaves_out longest [] = Some NoTune
 tunes_refused leaves_out longest (tune ∷ tunes) =
-    first_bad leaves_out (bad_tunes longest (tune ∷ tunes))
+    first_refused leaves_out (bad_tunes longest (tune ∷ tunes))
 
 -- why a book is refused, if it is
 abbrev pub refusal : Adding → ℕ → List ℕ → Option BookFault
 refusal how longest book =
-    if is_too_long how book then Some BookTooLong
+    if is_book_too_long how book then Some BookTooLong
     else tunes_refused how.good longest (book_tunes how.carry book)

@@ -16,5 +16,5 @@ abbrev pub is_known : List (List ℕ) → List ℕ → Bool
 is_known sums text = list_any (λ sum. is_eq (sum_order (sha256 text) sum)) sums
 
 -- these sums with that of a text, at its place, unless it is there
-abbrev pub with_text : List (List ℕ) → List ℕ → List (List ℕ)
-with_text sums text = insert_key sum_order sums (sha256 text)
+abbrev pub with_text_sum : List (List ℕ) → List ℕ → List (List ℕ)
+with_text_sum sums text = insert_key sum_order sums (sha256 text)

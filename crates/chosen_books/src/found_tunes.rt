@@ -9,9 +9,9 @@ ghost use Rattle.abc_fields.specs.FileHeaders.{file_header, with_header, is_head
 ghost use Rattle.abc_fields.specs.Books.{without_mark, book_runs};
 ghost use Rattle.abc_fields.specs.Inside.LinesLeft.{contents_of};
 ghost use Rattle.told_books.specs.Fates.{book_lines, engraves};
-ghost use Rattle.told_books.specs.ToldTunes.{fault_of};
-ghost use Rattle.chosen_books.specs.BookTunes.{book_tunes, is_between};
-ghost use Rattle.chosen_books.specs.ChosenTunes.{good_tunes, bad_tunes, good_or, bad_or};
+ghost use Rattle.told_books.specs.ToldTunes.{fault_of_tune};
+ghost use Rattle.chosen_books.specs.BookTunes.{book_tunes, is_carried_between};
+ghost use Rattle.chosen_books.specs.ChosenTunes.{good_tunes, bad_tunes, good_or, with_left_out};
 ghost use Rattle.chosen_books.specs.ChosenTunes.{longest_header};
 ghost use Rattle.chosen_books.specs.Inside.Fronts.{IsFront, IsJudged, AllPlain, OnMemory};
 
@@ -60,11 +60,11 @@ impl FoundTunes {
     ) -> Result<(), AllocError>
         ensures good { (longest : ℕ) (lines : List (List ℕ)) → IsJudged longest lines answer
             → OnOk result (self.new.good.items ≡ self.old.good.items
-            ++ good_or (fault_of longest lines)
+            ++ good_or (fault_of_tune longest lines)
             (record { place = place; line = line; lines = lines; carried = carried }) []) }
         ensures bad { (longest : ℕ) (lines : List (List ℕ)) → IsJudged longest lines answer
             → OnOk result (self.new.bad.items ≡ self.old.bad.items
-            ++ bad_or (fault_of longest lines)
+            ++ with_left_out (fault_of_tune longest lines)
             (record { place = place; line = line; lines = lines; carried = carried }) []) }
         ensures memory { OnOk result (answer ≢ Err BookFault.OutOfMemory) }
     {
@@ -132,7 +132,8 @@ impl Front {
         requires { longest ≤ longest_tune }
         ensures answer { (header between : List (List ℕ)) → IsFront header between self.old
             → AllPlain (contents_of lines.entry)
-            → fault ≡ fault_of longest (with_header header (tune_run (contents_of lines.entry)))
+            → fault ≡ fault_of_tune longest
+            (with_header header (tune_run (contents_of lines.entry)))
             → IsJudged longest
             (with_header (header ++ between) (tune_run (contents_of lines.entry))) result }
         ensures front { OnMemory result (self.new.bytes.items ≡ self.old.bytes.items) }
@@ -251,7 +252,7 @@ fn engraves(line: &[u8]) -> bool
 
 // Whether a line with this fate is carried, where this is asked for.
 fn is_between(carry: bool, fate: Fate, line: &[u8]) -> bool
-    ensures { result ≡ is_between carry fate line.now }
+    ensures { result ≡ is_carried_between carry fate line.now }
 {
     match fate {
         Fate::Dropped { directive: _ } => carry && engraves(line),

@@ -1,6 +1,6 @@
 // Texts that are known by their sums.
 ghost use Rattle.std.specs.Prelude.{◌≡◌, ℕ, List, [], IfOk, OnErr, OnOk, not};
-ghost use Rattle.chosen_books.specs.KnownTexts.{is_known, with_text};
+ghost use Rattle.chosen_books.specs.KnownTexts.{is_known, with_text_sum};
 
 use sha2::{Digest, Sha256};
 use std::alloc::{AllocError, Global};
@@ -41,7 +41,7 @@ impl KnownTexts {
     /// and what is known stays then.
     pub fn insert(&mut self, text: &[u8]) -> Result<bool, AllocError>
         ensures is_new { IfOk result (λ is_new. is_new ≡ not (is_known self.old text.now)) }
-        ensures known { OnOk result (self.new ≡ with_text self.old text.now) }
+        ensures known { OnOk result (self.new ≡ with_text_sum self.old text.now) }
         ensures err { OnErr result (self.new ≡ self.old) }
     {
         Ok(self.sums.insert(Sha256::digest(text))?)

@@ -2,7 +2,7 @@
 ghost use Rattle.std.specs.Prelude.{◌≡◌, ◌≢◌, ◌≤◌, ◌++◌, ◌∷◌, [], ℕ, length, IfOk, OnOk, Ok, List};
 ghost use Rattle.abc_fields.specs.Books.{book_answer};
 ghost use Rattle.chosen_books.specs.ChosenTunes.{GoIn, texts_of};
-ghost use Rattle.chosen_books.specs.Inside.WrittenParts.{AllFit, IsClosed, IsPart, full_part};
+ghost use Rattle.chosen_books.specs.Inside.WrittenParts.{TextsFit, IsClosed, IsBookPart, full_part};
 
 use crate::found_tunes::GoodTune;
 use abc_fields::{ByteText, TuneText};
@@ -24,7 +24,7 @@ pub(crate) struct Part {
 impl Part {
     // A part without a text.
     fn new(alloc: Global) -> Part
-        ensures is { IsPart result }
+        ensures is { IsBookPart result }
         ensures texts { result.texts.items ≡ [] }
         ensures open { result.length ≤ full_part }
     {
@@ -37,9 +37,9 @@ impl Part {
 
     // Adds a text. The part is not full.
     fn add(&mut self, number: u32, text: TuneText) -> Result<(), AllocError>
-        requires is { IsPart self.old }
+        requires is { IsBookPart self.old }
         requires open { self.old.length ≤ full_part }
-        ensures is { OnOk result (IsPart self.new) }
+        ensures is { OnOk result (IsBookPart self.new) }
         ensures texts { OnOk result (self.new.texts.items ≡ self.old.texts.items ++ text ∷ []) }
     {
         self.length += text.bytes().len() + 14;
@@ -50,9 +50,9 @@ impl Part {
 
     // The book of its texts.
     fn book(&self, alloc: Global) -> Result<ByteText, AllocError>
-        requires { IsPart self.now }
+        requires { IsBookPart self.now }
         ensures { IfOk result (λ book. (longest : ℕ) → self.now.texts.items ≢ []
-            → AllFit longest self.now.texts.items
+            → TextsFit longest self.now.texts.items
             → book_answer longest book ≡ Ok self.now.texts.items) }
     {
         write_book(alloc, self.numbers.as_slice(), self.texts.as_slice())
@@ -60,11 +60,11 @@ impl Part {
 
     // Puts the part at the end of others, and begins the next, where it is full.
     fn close_full(&mut self, alloc: Global, parts: &mut Vec<ByteText>) -> Result<(), AllocError>
-        requires { IsPart self.old }
-        ensures is { OnOk result (IsPart self.new) }
+        requires { IsBookPart self.old }
+        ensures is { OnOk result (IsBookPart self.new) }
         ensures open { OnOk result (self.new.length ≤ full_part) }
         ensures texts { OnOk result ((longest : ℕ) (done : List (List ℕ))
-            → AllFit longest self.old.texts.items → GoIn longest parts.old.items done
+            → TextsFit longest self.old.texts.items → GoIn longest parts.old.items done
             → IsClosed longest (done ++ self.old.texts.items) parts.new.items
             self.new.texts.items) }
     {
@@ -84,7 +84,7 @@ pub(crate) fn written_parts(
     alloc: Global,
     tunes: Vec<GoodTune>,
 ) -> Result<Vec<ByteText>, AllocError>
-    ensures { IfOk result (λ parts. (longest : ℕ) → AllFit longest (texts_of tunes.items)
+    ensures { IfOk result (λ parts. (longest : ℕ) → TextsFit longest (texts_of tunes.items)
         → GoIn longest parts.items (texts_of tunes.items)) }
 {
     let mut parts = Vec::new(alloc);

@@ -3,9 +3,9 @@ use Rattle.std.proofs.Common.{◌≡◌, ℕ, List, [], ◌∷◌, ◌++◌, Boo
 use Rattle.std.proofs.lemmas.List.{append_assoc}
 use Rattle.tune_disk.specs.declared.disk.Disk as disk
 use Rattle.tune_disk.specs.declared.file.Access.TheVariants.{Read}
-use Rattle.tune_desk.specs.BegunResults.{AfterNaming, IsBegun, NamesNew, Outcome, WritesDisk, naming_of, refusal_of_removal}
+use Rattle.tune_desk.specs.BegunResults.{AfterNaming, IsBegun, NamesNew, PutOutcome, WritesDisk, naming_of, refusal_of_removal}
 use Rattle.tune_desk.specs.DeskDeeds.{DeskDeed, Answer, closed, opened, removed, shared}
-use Rattle.tune_desk.specs.Results.{Places, Names, SparesFiles, Writes, new_of, places_of}
+use Rattle.tune_desk.specs.Results.{Places, Names, SparesFiles, WritesTarget, new_of, result_places}
 use Rattle.tune_desk.specs.declared.desk.DeskFault.{DeskFault}
 use Rattle.tune_desk.specs.declared.refusals.ResultRefusal.{ResultRefusal}
 use Rattle.tune_desk.specs.declared.refusals.ResultRefusal.TheVariants.{Unkept}
@@ -20,7 +20,7 @@ use Rattle.desk_scenes.specs.FileAnswers.{Did, IsUnasked}
 use Rattle.desk_scenes.specs.Scenes.{IsQuiet}
 use Rattle.desk_backups.specs.BackupFiles.{IsNamed, SparesCopies, SparesCopy}
 use Rattle.desk_backups.specs.Backups.{BacksUp, CopiesFile, CopiesWhole, FileRead, HasCopied, HasCopy, MakesCopy, PutsOrSpares, WritesSum}
-use Rattle.desk_backups.specs.CopyNames.{copy_places, numbered, sum_line, sum_places}
+use Rattle.desk_backups.specs.CopyNames.{copy_places, numbered_copy, sum_line, sum_places}
 use Rattle.desk_backups.specs.Inside.Copying.{SparesSum, SumsWhole}
 use Rattle.desk_backups.specs.OldCopies.{ThinsBy}
 use Rattle.desk_backups.specs.declared.backup_reasons.Unbacked.{Unbacked}
@@ -35,7 +35,7 @@ shared_at : {D : Type 0} (path other like : List ℕ) (answer : Answer) (mid now
 shared_at path other like answer mid now same e = e ∙ ap (λ p. mid ++ shared p like answer ∷ []) same
 
 -- TARGET.new GETS ITS NAME
-no_refusal : (outcome : Outcome) (why : ResultRefusal) → outcome ≡ Ok tt → outcome ≡ Err why → ⊥
+no_refusal : (outcome : PutOutcome) (why : ResultRefusal) → outcome ≡ Ok tt → outcome ≡ Err why → ⊥
 no_refusal outcome why done e = cc
 
 not_removed : (fault : DeskFault) (answer : Answer) → Ok tt ≡ refusal_of_removal fault answer → ⊥
@@ -61,7 +61,7 @@ module _ {D : Type 0} (places : Places) (target path like : List ℕ) (over : Bo
   shut_begun : IsBegun places target over was shut
   shut_begun = begun_quiet places target over was given given_begun shut (closed path made) k refl
 
-  pub naming_spares : (outcome : Outcome) (now : List (DeskDeed D)) → NamesNew target over outcome shut now → SparesFiles places was now
+  pub naming_spares : (outcome : PutOutcome) (now : List (DeskDeed D)) → NamesNew target over outcome shut now → SparesFiles places was now
   naming_spares outcome now names = finished_spares places target over was shut now outcome shut_begun names
 
   pub leaving_spares : (answer : Answer) (now : List (DeskDeed D)) → now ≡ shut ++ removed path answer ∷ [] → SparesFiles places was now
@@ -157,13 +157,14 @@ copied_named disks file path copied was now h =
 
 -- THE SUM BESIDE IT
 module _ {D : Type 0} (file path beside : List ℕ) (was now : List (DeskDeed D)) where
-  pub beside_spares : beside ≡ sum_path path → SparesFiles (places_of file (Some beside) false) was now → SparesFiles (sum_places file path) was now
-  beside_spares same h = subst (λ p. SparesFiles (places_of file (Some p) false) was now) same h
+  pub beside_spares : beside ≡ sum_path path → SparesFiles (result_places file (Some beside) false) was now → SparesFiles (sum_places file path) was now
+  beside_spares same h = subst (λ p. SparesFiles (result_places file (Some p) false) was now) same h
 
-  pub beside_written : (sum line : List ℕ) → beside ≡ sum_path path → line ≡ sum_line sum path → Writes (places_of file (Some beside) false) line was now
+  pub beside_written : (sum line : List ℕ) → beside ≡ sum_path path → line ≡ sum_line sum path
+      → WritesTarget (result_places file (Some beside) false) line was now
       → WritesSum file path sum was now
   beside_written sum line same is h =
-      subst (λ l. Writes (sum_places file path) l was now) is (subst (λ p. Writes (places_of file (Some p) false) line was now) same h)
+      subst (λ l. WritesTarget (sum_places file path) l was now) is (subst (λ p. WritesTarget (result_places file (Some p) false) line was now) same h)
 
   pub none_beside : now ≡ was → SparesFiles (sum_places file path) was now
   none_beside e = subst (SparesFiles (sum_places file path) was) (sym e) (spares_none (sum_places file path) was)
@@ -230,18 +231,18 @@ module _ {D : Type 0} (disks : disk.Ghosts D) (file copy : List ℕ) (keep : Opt
         (quiet_spares disks (copy_places file copy) rested now quiet)),
   )
 
-  pub named_files : (path : List ℕ) (number : ℕ) (was rested begun now : List (DeskDeed D)) → path ≡ numbered copy number
+  pub named_files : (path : List ℕ) (number : ℕ) (was rested begun now : List (DeskDeed D)) → path ≡ numbered_copy copy number
       → Did was rested (IsUnasked disks file) → IsQuiet rested begun → SparesCopy file path (ThinsBy file copy number keep) begun now
       → SparesCopies file copy keep was now
   named_files path number was rested begun now same did quiet h =
-      let places = copy_places file (numbered copy number) in (
+      let places = copy_places file (numbered_copy copy number) in (
         number,
-        copy_before disks file (numbered copy number) (ThinsBy file copy number keep) was begun now
+        copy_before disks file (numbered_copy copy number) (ThinsBy file copy number keep) was begun now
             (spares_both places was rested begun (unasked_spares disks places was rested did) (quiet_spares disks places rested begun quiet))
             (subst (λ p. SparesCopy file p (ThinsBy file copy number keep) begun now) same h),
       )
 
-  pub named_backs : (path : List ℕ) (number : ℕ) (was rested begun now : List (DeskDeed D)) → path ≡ numbered copy number
+  pub named_backs : (path : List ℕ) (number : ℕ) (was rested begun now : List (DeskDeed D)) → path ≡ numbered_copy copy number
       → Did was rested (IsUnasked disks file) → IsQuiet rested begun → CopiesWhole disks file path (ThinsBy file copy number keep) begun now
       → (done : BacksUp disks file copy keep was now) × (done.number ≡ number)
   named_backs path number was rested begun now same did quiet h = (

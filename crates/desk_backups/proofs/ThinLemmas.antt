@@ -4,11 +4,11 @@ use Rattle.std.proofs.lemmas.List.{append_assoc}
 use Rattle.desk_copies.specs.SumFiles.{sum_path}
 use Rattle.tune_desk.specs.DeskDeeds.{DeskDeed, Answer, ChangesNothing, looked, compared, tested, followed, read, listed, made, named, named_over, removed}
 use Rattle.tune_desk.specs.DeskDeeds.{opened, closed, grown, created, linked, shared}
-use Rattle.tune_desk.specs.Results.{AreApart, archive_head}
+use Rattle.tune_desk.specs.Results.{AreFoundApart, archive_head}
 use Rattle.tune_desk.proofs.DeedLists.{Covers, covers_front, covers_rest, first_of_one}
 use Rattle.tune_desk.proofs.SpareLemmas.{each_append, each_of_all}
 use Rattle.desk_scenes.specs.Scenes.{IsQuiet}
-use Rattle.desk_backups.specs.CopyNames.{numbered}
+use Rattle.desk_backups.specs.CopyNames.{numbered_copy}
 use Rattle.desk_backups.specs.Inside.Thinned.{IsOldCopy, IsThinned}
 use Rattle.desk_backups.specs.OldCopies.{HasNewer, IsFound, Thinning, Thins, ThinsOut}
 use Rattle.desk_backups.specs.declared.old_copies.Walked.{Walked}
@@ -80,13 +80,13 @@ module _ {D : Type 0} (thinning : Thinning) (was mid now : List (DeskDeed D)) wh
   }
 
   -- COPY of a number begins as an archive
-  module _ (walked next : Walked) (number : ℕ) (path : List ℕ) (is : path ≡ numbered thinning.copy number) (lt : number < walked.last)
+  module _ (walked next : Walked) (number : ℕ) (path : List ℕ) (is : path ≡ numbered_copy thinning.copy number) (lt : number < walked.last)
       (h : IsThinned thinning walked was mid) (e : now ≡ mid ++ tested path archive_head (Ok true) ∷ []) where
-    seen : now ≡ mid ++ tested (numbered thinning.copy number) archive_head (Ok true) ∷ []
+    seen : now ≡ mid ++ tested (numbered_copy thinning.copy number) archive_head (Ok true) ∷ []
     seen = e ∙ ap (λ p. mid ++ tested p archive_head (Ok true) ∷ []) is
 
     abbrev deed : DeskDeed D
-    deed = tested (numbered thinning.copy number) archive_head (Ok true)
+    deed = tested (numbered_copy thinning.copy number) archive_head (Ok true)
 
     found_it : IsFound thinning number (h.thins.since ++ deed ∷ [])
     found_it = (covers_rest h.thins.since (deed ∷ [])).each deed (first_of_one deed [])
@@ -115,8 +115,8 @@ module _ {D : Type 0} (thinning : Thinning) (was mid now : List (DeskDeed D)) wh
 
   -- it was taken away
   pub old_removed : (number : ℕ) (path : List ℕ) (answer : Answer)
-      → (path ≡ numbered thinning.copy number) ⊎ (path ≡ sum_path (numbered thinning.copy number))
-      → (h : IsOldCopy thinning number was mid) → AreApart path thinning.file h.thins.since → now ≡ mid ++ removed path answer ∷ []
+      → (path ≡ numbered_copy thinning.copy number) ⊎ (path ≡ sum_path (numbered_copy thinning.copy number))
+      → (h : IsOldCopy thinning number was mid) → AreFoundApart path thinning.file h.thins.since → now ≡ mid ++ removed path answer ∷ []
       → IsOldCopy thinning number was now
   old_removed number path answer is h apart e = record {
     thins = thins_then (removed path answer) h.thins e
@@ -127,7 +127,7 @@ module _ {D : Type 0} (thinning : Thinning) (was mid now : List (DeskDeed D)) wh
 
 -- a file that is not FILE was taken away
 pub old_apart : {D : Type 0} (thinning : Thinning) (number : ℕ) (file path : List ℕ) (answer : Answer) (was old mid now : List (DeskDeed D))
-    → thinning.file ≡ file → (path ≡ numbered thinning.copy number) ⊎ (path ≡ sum_path (numbered thinning.copy number))
+    → thinning.file ≡ file → (path ≡ numbered_copy thinning.copy number) ⊎ (path ≡ sum_path (numbered_copy thinning.copy number))
     → IsOldCopy thinning number was old → mid ≡ old ++ compared path file (Ok false) ∷ [] → now ≡ mid ++ removed path answer ∷ []
     → IsOldCopy thinning number was now
 old_apart {D} thinning number file path answer was old mid now same is h e k =

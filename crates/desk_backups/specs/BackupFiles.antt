@@ -4,7 +4,7 @@ use Rattle.tune_desk.specs.DeskDeeds.{DeskDeed}
 use Rattle.tune_desk.specs.Refusals.{WasNamed}
 use Rattle.tune_desk.specs.Results.{LeadsTo, SparesFiles}
 use Rattle.desk_scenes.specs.FileAnswers.{Did}
-use Rattle.desk_backups.specs.CopyNames.{numbered, copy_places, sum_places}
+use Rattle.desk_backups.specs.CopyNames.{numbered_copy, copy_places, sum_places}
 use Rattle.desk_backups.specs.OldCopies.{ThinsBy}
 
 -- A copy got its name, and the device kept that.
@@ -27,4 +27,4 @@ pub record SparesCopy {D : Type 0} (file path : List ℕ) (Thins : List (DeskDee
 abbrev pub SparesCopies : {D : Type 0} → List ℕ → List ℕ → Option ℕ → List (DeskDeed D)
     → List (DeskDeed D) → Type 0
 SparesCopies file copy keep was now = (number : ℕ)
-    × SparesCopy file (numbered copy number) (ThinsBy file copy number keep) was now
+    × SparesCopy file (numbered_copy copy number) (ThinsBy file copy number keep) was now

@@ -6,13 +6,13 @@ use Rattle.tune_disk.specs.declared.file.Access.TheVariants.{Read}
 use Rattle.tune_scripts.specs.Streams.{Streams}
 use Rattle.tune_desk.specs.BegunResults.{WritesDisk}
 use Rattle.tune_desk.specs.DeskDeeds.{DeskDeed, opened, closed}
-use Rattle.tune_desk.specs.Results.{Places, SparesFiles, Writes}
+use Rattle.tune_desk.specs.Results.{Places, SparesFiles, WritesTarget}
 use Rattle.desk_copies.specs.Copies.{CopiesArchive}
 use Rattle.desk_copies.specs.declared.archive_copies.Copied.{Copied}
 use Rattle.desk_scenes.specs.FileAnswers.{Did, IsUnasked}
 use Rattle.desk_scenes.specs.Printing.{IsSilent, PrintsOrNot}
 use Rattle.desk_scenes.specs.Scenes.{Scene, IsQuiet}
-use Rattle.desk_backups.specs.CopyNames.{numbered, sum_line, copy_places, sum_places}
+use Rattle.desk_backups.specs.CopyNames.{numbered_copy, sum_line, copy_places, sum_places}
 use Rattle.desk_backups.specs.OldCopies.{ThinsBy}
 use Rattle.desk_backups.specs.declared.backup_reasons.Unbacked.{Unbacked}
 
@@ -56,7 +56,7 @@ CopiesFile disks file path (Err why) was now = SparesFiles (copy_places file pat
 -- The file beside a copy was written, which tells its sum.
 abbrev pub WritesSum : {D : Type 0} → List ℕ → List ℕ → List ℕ → List (DeskDeed D)
     → List (DeskDeed D) → Type 0
-WritesSum file path sum was now = Writes (sum_places file path) (sum_line sum path) was now
+WritesSum file path sum was now = WritesTarget (sum_places file path) (sum_line sum path) was now
 
 -- The copy was made, and then its sum; and then old copies were taken away.
 pub record CopiesWhole {D : Type 0} (disks : disk.Ghosts D) (file path : List ℕ)
@@ -77,17 +77,17 @@ pub record BacksUp {D : Type 0} (disks : disk.Ghosts D) (file copy : List ℕ) (
   pub begun : List (DeskDeed D)
   pub rests : Did was rested (IsUnasked disks file)
   pub asks : IsQuiet rested begun
-  pub copies : CopiesWhole disks file (numbered copy number) (ThinsBy file copy number keep)
+  pub copies : CopiesWhole disks file (numbered_copy copy number) (ThinsBy file copy number keep)
       begun now
 
 -- WHAT IS PRINTED: which name the copy got, where that is not COPY
-abbrev pub TellsName : List ℕ → ℕ → Streams → ℕ → Type 0
-TellsName copy zero streams status = IsSilent streams × (status ≡ 0)
-TellsName copy (suc before) streams status = PrintsOrNot streams
-    (codes "the copy is " ++ numbered copy (suc before) ++ codes "\n") status
+abbrev pub TellsCopyName : List ℕ → ℕ → Streams → ℕ → Type 0
+TellsCopyName copy zero streams status = IsSilent streams × (status ≡ 0)
+TellsCopyName copy (suc before) streams status = PrintsOrNot streams
+    (codes "the copy is " ++ numbered_copy copy (suc before) ++ codes "\n") status
 
 -- A copy was made, and its name was told; or the status says that something was not done.
 abbrev pub Backs : {D : Type 0} → disk.Ghosts D → List ℕ → List ℕ → Option ℕ → Scene D → Type 0
 Backs disks file copy keep scene = ((done : BacksUp disks file copy keep scene.was scene.now)
-    × TellsName copy done.number scene.streams scene.status)
+    × TellsCopyName copy done.number scene.streams scene.status)
     ⊎ (IsSilent scene.streams × (scene.status ≢ 0))

@@ -4,8 +4,8 @@ use Rattle.std.specs.Prelude.{true}
 use Rattle.std.specs.List.{Contains}
 use Rattle.desk_copies.specs.SumFiles.{sum_path}
 use Rattle.tune_desk.specs.DeskDeeds.{DeskDeed, ChangesNothing, removed, tested}
-use Rattle.tune_desk.specs.Results.{AreApart, EachAfter, archive_head}
-use Rattle.desk_backups.specs.CopyNames.{numbered}
+use Rattle.tune_desk.specs.Results.{AreFoundApart, EachAfter, archive_head}
+use Rattle.desk_backups.specs.CopyNames.{numbered_copy}
 
 -- FILE and COPY, the number of the copy that was just made, and how many are to stay.
 pub record Thinning : Type 0 where
@@ -17,7 +17,7 @@ pub record Thinning : Type 0 where
 -- COPY of a number was looked at, and begins as an archive.
 abbrev pub IsFound : {D : Type 0} → Thinning → ℕ → List (DeskDeed D) → Type 0
 IsFound thinning number before =
-    Contains before (tested (numbered thinning.copy number) archive_head (Ok true))
+    Contains before (tested (numbered_copy thinning.copy number) archive_head (Ok true))
 
 -- There are so many copies of greater numbers: the one that was just made, and others that were
 -- found.
@@ -34,9 +34,9 @@ pub record MayGo {D : Type 0} (thinning : Thinning) (path : List ℕ) (before : 
   pub number : ℕ
   pub found : IsFound thinning number before
   pub newer : HasNewer thinning thinning.keep number before
-  pub other : AreApart path thinning.file before
-  pub is : (path ≡ numbered thinning.copy number)
-      ⊎ (path ≡ sum_path (numbered thinning.copy number))
+  pub other : AreFoundApart path thinning.file before
+  pub is : (path ≡ numbered_copy thinning.copy number)
+      ⊎ (path ≡ sum_path (numbered_copy thinning.copy number))
 
 -- A deed takes such a file away, or it changes nothing.
 abbrev pub Thins : {D : Type 0} → Thinning → List (DeskDeed D) → DeskDeed D → Type 0

@@ -2,8 +2,8 @@
 ghost use Rattle.std.specs.Prelude.{◌≡◌, ◌≢◌, ◌++◌, codes, List, ℕ, Some, IfOk, OnOk, string_bytes};
 ghost use Rattle.tune_scripts.specs.Streams.{streams_in};
 ghost use Rattle.desk_backups.specs.BackupFiles.{SparesCopies, SparesCopy};
-ghost use Rattle.desk_backups.specs.Backups.{Backs, BacksUp, CopiesWhole, TellsName};
-ghost use Rattle.desk_backups.specs.CopyNames.{numbered};
+ghost use Rattle.desk_backups.specs.Backups.{Backs, BacksUp, CopiesWhole, TellsCopyName};
+ghost use Rattle.desk_backups.specs.CopyNames.{numbered_copy};
 ghost use Rattle.desk_backups.specs.Inside.Copying.{SparesSum, SumsWhole};
 ghost use Rattle.desk_backups.specs.OldCopies.{ThinsBy};
 
@@ -65,7 +65,7 @@ fn back_up<D: Disk, E: Progress, K: AllocGlobal + Desk<Disk = D>>(
         (done : BacksUp D.Disk file (string_bytes copy.now) keep
         (K.deeds desk.old) (K.deeds desk.new)) × (done.number ≡ named.number)) }
     ensures named { IfOk result (λ named. string_bytes named.path
-        ≡ numbered (string_bytes copy.now) named.number) }
+        ≡ numbered_copy (string_bytes copy.now) named.number) }
 {
     match bring_to_rest(desk, file) {
         Ok(()) => match find_name(desk, file, copy) {
@@ -154,8 +154,9 @@ fn tell_name<C: Console, E: Write>(
     errors: &mut E,
     named: &NamedCopy,
 ) -> u8
-    ensures { (copy : List ℕ) → string_bytes named.now.path ≡ numbered copy named.now.number
-        → TellsName copy named.now.number (streams_in C.Console console.old console.new) result }
+    ensures { (copy : List ℕ) → string_bytes named.now.path ≡ numbered_copy copy named.now.number
+        → TellsCopyName copy named.now.number
+        (streams_in C.Console console.old console.new) result }
 {
     if named.number == 0 {
         return DONE;

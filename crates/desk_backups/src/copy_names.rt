@@ -1,7 +1,7 @@
 // Which name a copy gets.
 ghost use Rattle.std.specs.Prelude.{◌≡◌, IfOk, string_bytes};
 ghost use Rattle.desk_scenes.specs.Scenes.{IsQuiet};
-ghost use Rattle.desk_backups.specs.CopyNames.{numbered};
+ghost use Rattle.desk_backups.specs.CopyNames.{numbered_copy};
 
 use crate::backup_reasons::Unbacked;
 use desk_copies::sum_path;
@@ -21,7 +21,8 @@ pub(crate) struct NamedCopy {
 
 /// COPY of a number: COPY itself for 0, and else COPY, a dot and the number.
 pub(crate) fn numbered(alloc: Global, copy: &String, number: u32) -> Result<String, AllocError>
-    ensures { IfOk result (λ path. string_bytes path ≡ numbered (string_bytes copy.now) number) }
+    ensures { IfOk result
+        (λ path. string_bytes path ≡ numbered_copy (string_bytes copy.now) number) }
 {
     if number == 0 {
         String::from_str(alloc, copy.as_str())
@@ -39,7 +40,7 @@ pub(crate) fn find_name<K: AllocGlobal + Desk>(
 ) -> Result<NamedCopy, Unbacked>
     ensures quiet { IsQuiet (K.deeds desk.old) (K.deeds desk.new) }
     ensures named { IfOk result (λ named. string_bytes named.path
-        ≡ numbered (string_bytes copy.now) named.number) }
+        ≡ numbered_copy (string_bytes copy.now) named.number) }
 {
     let number = next_number(desk, file, copy)?;
     let Ok(path) = numbered(desk.alloc(), copy, number) else {

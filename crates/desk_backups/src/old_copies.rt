@@ -2,7 +2,7 @@
 ghost use Rattle.std.specs.Prelude.{◌≡◌, ◌≤◌, ◌⊎◌, List, ℕ, IfOk, string_bytes};
 ghost use Rattle.tune_desk.specs.DeskDeeds.{DeskDeed};
 ghost use Rattle.desk_copies.specs.SumFiles.{sum_path};
-ghost use Rattle.desk_backups.specs.CopyNames.{numbered};
+ghost use Rattle.desk_backups.specs.CopyNames.{numbered_copy};
 ghost use Rattle.desk_backups.specs.OldCopies.{Thinning, ThinsOut};
 ghost use Rattle.desk_backups.specs.Inside.Thinned.{IsThinned, IsOldCopy, ThinsOn};
 
@@ -128,7 +128,7 @@ fn take_away<K: AllocGlobal + Desk>(
 ) -> Result<(), Unbacked>
     ensures { (thinning : Thinning) (number : ℕ) (was : List (DeskDeed K.Disk))
         → thinning.file ≡ string_bytes file.now
-        → string_bytes path.now ≡ numbered thinning.copy number
+        → string_bytes path.now ≡ numbered_copy thinning.copy number
         → IsOldCopy thinning number was (K.deeds desk.old)
         → IsOldCopy thinning number was (K.deeds desk.new) }
 {
@@ -143,8 +143,8 @@ fn take_away<K: AllocGlobal + Desk>(
 fn take_one<K: Desk>(desk: &mut K, file: &String, path: &String) -> Result<(), Unbacked>
     ensures { (thinning : Thinning) (number : ℕ) (was : List (DeskDeed K.Disk))
         → thinning.file ≡ string_bytes file.now
-        → (string_bytes path.now ≡ numbered thinning.copy number)
-        ⊎ (string_bytes path.now ≡ sum_path (numbered thinning.copy number))
+        → (string_bytes path.now ≡ numbered_copy thinning.copy number)
+        ⊎ (string_bytes path.now ≡ sum_path (numbered_copy thinning.copy number))
         → IsOldCopy thinning number was (K.deeds desk.old)
         → IsOldCopy thinning number was (K.deeds desk.new) }
 {

@@ -2,7 +2,7 @@
 ghost use Rattle.std.specs.Prelude.{◌≡◌, IfOk, MatchResult, string_bytes};
 ghost use Rattle.tune_desk.specs.Results.{SparesFiles};
 ghost use Rattle.desk_backups.specs.Backups.{WritesSum};
-ghost use Rattle.desk_backups.specs.CopyNames.{name_of, sum_line, sum_places};
+ghost use Rattle.desk_backups.specs.CopyNames.{name_of_path, sum_line, sum_places};
 
 use crate::backup_reasons::Unbacked;
 use desk_copies::sum_path;
@@ -48,7 +48,7 @@ fn sum_line(alloc: Global, path: &String, sum: &[u8; 32]) -> Result<String, Allo
 
 // The last part of a path.
 fn name_of(path: &String) -> &str
-    ensures { result.now ≡ name_of (string_bytes path.now) }
+    ensures { result.now ≡ name_of_path (string_bytes path.now) }
 {
     match Path::new(path.as_str()).file_name() {
         Some(name) => name,

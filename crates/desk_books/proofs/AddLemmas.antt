@@ -11,33 +11,33 @@ use Rattle.tune_disk.specs.declared.disk.Disk as disk
 use Rattle.std.specs.Prelude.{Result, false}
 use Rattle.tune_desk.specs.DeskDeeds.{DeskDeed, read}
 use Rattle.tune_desk.specs.OldTexts.{GrowsNot}
-use Rattle.tune_desk.specs.Results.{Places, SparesFiles, IsReading, places_of}
+use Rattle.tune_desk.specs.Results.{Places, SparesFiles, IsReading, result_places}
 use Rattle.tune_desk.specs.declared.desk.DeskFault.{DeskFault}
 use Rattle.tune_desk.proofs.SpareLemmas.{spares_none, spares_one_more, spares_both}
 use Rattle.desk_terms.specs.declared.adding.Adding.{Adding}
 use Rattle.desk_scenes.specs.Scenes.{IsQuiet}
 use Rattle.desk_scenes.proofs.QuietLemmas.{quiet_none, quiet_one, quiet_both}
 use Rattle.desk_books.specs.AddedBooks.{Reached, TakesBook, TakesParts, Adds, added_parts}
-use Rattle.desk_books.specs.Givens.{ReadsBook}
+use Rattle.desk_books.specs.Givens.{ReadsGivenBook}
 
 -- FILES
 -- a book that is read
 pub reads_quiet : {D : Type 0} (input path : List ℕ) (answer : Result (List ℕ) DeskFault) (was now : List (DeskDeed D))
-    → ReadsBook input path answer was now → IsQuiet was now
+    → ReadsGivenBook input path answer was now → IsQuiet was now
 reads_quiet input path answer was now (inl (is, same, gives)) = subst (IsQuiet was) (sym same) (quiet_none was)
 reads_quiet input path answer was now (inr (other, deed)) = quiet_one was now (read path answer) deed refl
 
 pub reads_spare : {D : Type 0} (places : Places) (input path : List ℕ) (answer : Result (List ℕ) DeskFault) (was now : List (DeskDeed D))
-    → ReadsBook input path answer was now → SparesFiles places was now
+    → ReadsGivenBook input path answer was now → SparesFiles places was now
 reads_spare places input path answer was now (inl (is, same, gives)) = subst (SparesFiles places was) (sym same) (spares_none places was)
 reads_spare places input path answer was now (inr (other, deed)) = spares_one_more places was was now (read path answer) (spares_none places was) deed refl
 
 -- what is done between the opening of FILE and its closing
 pub around_spares : {D : Type 0} (file : List ℕ) (was began ended now : List (DeskDeed D)) (first last : DeskDeed D) → began ≡ was ++ first ∷ []
-    → IsReading (places_of file None false) first → SparesFiles (places_of file None false) began ended → now ≡ ended ++ last ∷ []
-    → IsReading (places_of file None false) last → SparesFiles (places_of file None false) was now
+    → IsReading (result_places file None false) first → SparesFiles (result_places file None false) began ended → now ≡ ended ++ last ∷ []
+    → IsReading (result_places file None false) last → SparesFiles (result_places file None false) was now
 around_spares file was began ended now first last e reads spares f closes =
-    let places = places_of file None false in
+    let places = result_places file None false in
     let opens = spares_one_more places was was began first (spares_none places was) e reads in
     spares_one_more places was ended now last (spares_both places was began ended opens spares) f closes
 

@@ -12,7 +12,7 @@ use Rattle.tune_store.specs.declared.layout.Layout.{Layout}
 use Rattle.tune_store.specs.declared.tune.Tune.{Tune}
 use Rattle.tune_asking.specs.AskingCalls.{tune_told, tune_or}
 use Rattle.chosen_books.specs.ChosenTunes.{GoIn, chosen_tunes, stays_whole, sums_then, texts_of, refusal}
-use Rattle.chosen_books.specs.KnownTexts.{with_text}
+use Rattle.chosen_books.specs.KnownTexts.{with_text_sum}
 use Rattle.desk_terms.specs.declared.adding.Adding.{Adding}
 use Rattle.desk_books.specs.ChosenParts.{Chooses, IsNotChosen}
 use Rattle.desk_books.specs.KnownSums.{KnowsTextsAt}
@@ -24,19 +24,19 @@ told_some number (Some other) tune e = (let same : other ≡ tune = cc in ap Som
 
 -- one text more
 knows_more : (numbers : List ℕ) (number : ℕ) (was mid : List (List ℕ)) (state : State) (tune : Tune) → KnowsTextsAt numbers was state mid
-    → tune_told number state ≡ Ok tune → KnowsTextsAt (numbers ++ number ∷ []) was state (with_text mid tune.text)
+    → tune_told number state ≡ Ok tune → KnowsTextsAt (numbers ++ number ∷ []) was state (with_text_sum mid tune.text)
 knows_more [] number was mid state tune h told =
-    (tune, told_some number (tune_at number state.tunes) tune told, ap (λ sums. with_text sums tune.text) h)
+    (tune, told_some number (tune_at number state.tunes) tune told, ap (λ sums. with_text_sum sums tune.text) h)
 knows_more (first ∷ numbers) number was mid state tune h told =
-    (h.0, h.1, knows_more numbers number (with_text was h.0.text) mid state tune h.2 told)
+    (h.0, h.1, knows_more numbers number (with_text_sum was h.0.text) mid state tune h.2 told)
 
 -- the first numbers, one by one
 pub knows_next : (numbers : List ℕ) (i number : ℕ) (was mid now : List (List ℕ)) (state : State) (tune : Tune) (text : List ℕ) → i < length numbers
-    → number ≡ get_or numbers i 0 → text ≡ tune.text → now ≡ with_text mid text → KnowsTextsAt (take i numbers) was state mid
+    → number ≡ get_or numbers i 0 → text ≡ tune.text → now ≡ with_text_sum mid text → KnowsTextsAt (take i numbers) was state mid
     → tune_told number state ≡ Ok tune → KnowsTextsAt (take (i + 1) numbers) was state now
 knows_next numbers i number was mid now state tune text lt at same is h told =
     let longer : take (i + 1) numbers ≡ take i numbers ++ number ∷ [] = take_more numbers i 0 lt ∙ ap (λ n. take i numbers ++ n ∷ []) (sym at) in
-    let sums : now ≡ with_text mid tune.text = is ∙ ap (with_text mid) same in
+    let sums : now ≡ with_text_sum mid tune.text = is ∙ ap (with_text_sum mid) same in
     subst (λ l. KnowsTextsAt l was state now) (sym longer)
     (subst (KnowsTextsAt (take i numbers ++ number ∷ []) was state) (sym sums) (knows_more (take i numbers) number was mid state tune h told))
 

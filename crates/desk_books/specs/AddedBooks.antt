@@ -34,7 +34,7 @@ use Rattle.desk_scenes.specs.Scenes.{IsQuiet}
 use Rattle.desk_scenes.specs.Visits.{Visits}
 use Rattle.desk_books.specs.Stages.{EachInTurn}
 use Rattle.desk_books.specs.ChosenParts.{Chooses}
-use Rattle.desk_books.specs.Givens.{Given, ReadsBook, given_of}
+use Rattle.desk_books.specs.Givens.{Given, ReadsGivenBook, given_of}
 use Rattle.desk_books.specs.KnownSums.{KnowsTexts}
 use Rattle.desk_books.specs.TriedBooks.{TriesFound}
 use Rattle.desk_books.specs.declared.taken_books.Course.{Course}
@@ -109,8 +109,8 @@ TakesIn {D} {S} kept file book old new status = (deeds : List (DeskDeed D)) × (
 
 -- Nothing was done but that an entry was to be kept, and was not: a device that failed may hold it
 -- all the same, and so nothing is to come behind it.
-abbrev pub Stays : {D S : Type 0} → List ℕ → Reached D S → Reached D S → Type 0
-Stays file old new = GrowsNot file old.deeds new.deeds × (new.store ≡ old.store)
+abbrev pub StaysUnkept : {D S : Type 0} → List ℕ → Reached D S → Reached D S → Type 0
+StaysUnkept file old new = GrowsNot file old.deeds new.deeds × (new.store ≡ old.store)
     × (new.course ≡ record old.course { failed = true })
 
 -- A part of a book was taken in; or it is refused before that, or its entry could not be kept, and
@@ -118,7 +118,7 @@ Stays file old new = GrowsNot file old.deeds new.deeds × (new.store ≡ old.sto
 abbrev pub TakesBook : {D S : Type 0} → store.Ghosts S → List ℕ → List ℕ → Reached D S
     → Reached D S → ℕ → Type 0
 TakesBook kept file book old new status = TakesIn kept file book old new status
-    ⊎ ((status ≢ 0) × ((new ≡ old) ⊎ Stays file old new))
+    ⊎ ((status ≢ 0) × ((new ≡ old) ⊎ StaysUnkept file old new))
 
 -- ONE BOOK
 -- Its parts were taken in, one after another, up to one that was not: then the status says so.
@@ -156,7 +156,7 @@ abbrev pub TakesPath : {D S : Type 0} → store.Ghosts S → Given → List ℕ 
 TakesPath {D} kept given path old new status =
     ((old.course.failed ≡ true) × (new ≡ old) × (status ≢ 0))
     ⊎ ((old.course.failed ≡ false) × (answer : Result (List ℕ) DeskFault)
-    × (deeds : List (DeskDeed D)) × ReadsBook given.input path answer old.deeds deeds
+    × (deeds : List (DeskDeed D)) × ReadsGivenBook given.input path answer old.deeds deeds
     × TakesRead kept given answer (record old { deeds = deeds }) new status)
 
 -- each of these paths, in order

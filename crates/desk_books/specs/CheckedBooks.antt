@@ -93,8 +93,8 @@ TellsOneOf folder name old new status = TellsFile (folder ++ codes "/" ++ name) 
     ⊎ ((new ≡ old) × (status ≡ 1))
 
 -- what is done for a name in a folder: of no book nothing
-abbrev pub TellsName : {D : Type 0} → List ℕ → List ℕ → Stage D → Stage D → ℕ → Type 0
-TellsName folder name old new status =
+abbrev pub TellsBookName : {D : Type 0} → List ℕ → List ℕ → Stage D → Stage D → ℕ → Type 0
+TellsBookName folder name old new status =
     ((is_book_name name ≡ true) × TellsOneOf folder name old new status)
     ⊎ ((is_book_name name ≡ false) × (new ≡ old) × (status ≡ 0))
 
@@ -102,7 +102,7 @@ TellsName folder name old new status =
 abbrev pub TellsListed : {D : Type 0} → List ℕ → Result (List (List ℕ)) DeskFault → Stage D
     → Stage D → ℕ → Type 0
 TellsListed folder (Ok names) old new status = ((list_any is_book_name names ≡ true)
-    × EachInTurn (TellsName folder) names old new status)
+    × EachInTurn (TellsBookName folder) names old new status)
     ⊎ ((list_any is_book_name names ≡ false) × (new ≡ old) × (status ≡ 2))
 TellsListed folder (Err fault) old new status = (new ≡ old) × (status ≡ 1)
 

@@ -20,8 +20,8 @@ given_by request =
     given_of (string_bytes request.file.now) request.input.now request.how.now
 
 -- The book at a path: what standard input gave for `-`, or a file that was read.
-abbrev pub ReadsBook : {D : Type 0} → List ℕ → List ℕ → Result (List ℕ) DeskFault
+abbrev pub ReadsGivenBook : {D : Type 0} → List ℕ → List ℕ → Result (List ℕ) DeskFault
     → List (DeskDeed D) → List (DeskDeed D) → Type 0
-ReadsBook input path answer was now =
+ReadsGivenBook input path answer was now =
     ((path ≡ codes "-") × (now ≡ was) × IfOk answer (λ book. book ≡ input))
     ⊎ ((path ≢ codes "-") × (now ≡ was ++ read path answer ∷ []))

@@ -5,14 +5,14 @@ use Rattle.tune_store.specs.Labels.{labels_of, numbers_of}
 use Rattle.tune_store.specs.declared.catalog.Label.{Label}
 use Rattle.tune_store.specs.declared.tune.Tune.{Tune}
 use Rattle.tune_asking.specs.AskingCalls.{Meaning}
-use Rattle.chosen_books.specs.KnownTexts.{with_text}
+use Rattle.chosen_books.specs.KnownTexts.{with_text_sum}
 
 -- The texts of the tunes of these numbers came to what was known, and this is known then.
 abbrev pub KnowsTextsAt : List ℕ → List (List ℕ) → State → List (List ℕ) → Type 0
 KnowsTextsAt [] was state now = now ≡ was
 KnowsTextsAt (number ∷ numbers) was state now = (tune : Tune)
     × (tune_at number state.tunes ≡ Some tune)
-    × KnowsTextsAt numbers (with_text was tune.text) state now
+    × KnowsTextsAt numbers (with_text_sum was tune.text) state now
 
 -- Each text of a state is known, in the order of the numbers.
 abbrev pub KnowsEach : State → List (List ℕ) → Type 0

@@ -8,7 +8,7 @@ use Rattle.tune_desk.specs.DeskDeeds.{DeskDeed}
 use Rattle.tune_desk.specs.declared.desk.DeskFault.{DeskFault}
 use Rattle.desk_terms.specs.declared.adding.Adding.{Adding}
 use Rattle.desk_scenes.specs.FileAnswers.{Did, IsAsked, IsUnasked}
-use Rattle.desk_books.specs.Givens.{Given, ReadsBook}
+use Rattle.desk_books.specs.Givens.{Given, ReadsGivenBook}
 use Rattle.desk_books.specs.Stages.{EachInTurn}
 
 -- The status is 0 only of a book of which something may be taken in, by how it is to be done.
@@ -25,7 +25,7 @@ TriesRead how layout (Err fault) status = status ≢ 0
 abbrev pub TriesPath : {D : Type 0} → Given → Layout → List ℕ → List (DeskDeed D)
     → List (DeskDeed D) → ℕ → Type 0
 TriesPath given layout path was now status = (answer : Result (List ℕ) DeskFault)
-    × ReadsBook given.input path answer was now × TriesRead given.how layout answer status
+    × ReadsGivenBook given.input path answer was now × TriesRead given.how layout answer status
 
 -- FILE was asked for its layout, and nothing else was done with it; then the books of these paths
 -- were read.

@@ -7,7 +7,7 @@ ghost use Rattle.tune_archive.specs.AsStore.{store_on};
 ghost use Rattle.tune_archive.specs.Shelf.{state_of};
 ghost use Rattle.desk_books.specs.AddedBooks.{Adds, AddsFound, TakesAll, TakesFound};
 ghost use Rattle.desk_books.specs.Givens.{given_by};
-ghost use Rattle.tune_desk.specs.Results.{SparesFiles, places_of};
+ghost use Rattle.tune_desk.specs.Results.{SparesFiles, result_places};
 
 use crate::asked_texts::known_texts;
 use crate::found_books::find_books;
@@ -37,7 +37,7 @@ pub fn add<C: Console, E: Write + Progress, D: Disk, K: AllocGlobal + Desk<Disk 
     console: &mut C,
     errors: &mut E,
 ) -> u8
-    ensures files { SparesFiles (places_of (string_bytes file.now) None false)
+    ensures files { SparesFiles (result_places (string_bytes file.now) None false)
         (K.deeds desk.old) (K.deeds desk.new) }
     ensures adds { Adds D.Disk (string_bytes file.now) how.now
         (K.deeds desk.old) (K.deeds desk.new) result }
@@ -56,7 +56,7 @@ fn add_found<C: Console, E: Write + Progress, D: Disk, K: AllocGlobal + Desk<Dis
     console: &mut C,
     errors: &mut E,
 ) -> u8
-    ensures files { SparesFiles (places_of (string_bytes file.now) None false)
+    ensures files { SparesFiles (result_places (string_bytes file.now) None false)
         (K.deeds desk.old) (K.deeds desk.new) }
     ensures adds { Adds D.Disk (string_bytes file.now) how.now
         (K.deeds desk.old) (K.deeds desk.new) result }
@@ -94,7 +94,7 @@ fn add_given<C: Console, E: Write + Progress, D: Disk, K: AllocGlobal + Desk<Dis
     console: &mut C,
     errors: &mut E,
 ) -> u8
-    ensures files { SparesFiles (places_of (string_bytes request.now.file.now) None false)
+    ensures files { SparesFiles (result_places (string_bytes request.now.file.now) None false)
         (K.deeds desk.old) (K.deeds desk.new) }
     ensures adds { AddsFound D.Disk (given_by request.now) (map string_bytes found.now)
         (K.deeds desk.old) (K.deeds desk.new) result }
@@ -113,7 +113,7 @@ fn take_found<C: Console, E: Write + Progress, D: Disk, K: AllocGlobal + Desk<Di
     console: &mut C,
     errors: &mut E,
 ) -> u8
-    ensures files { SparesFiles (places_of (string_bytes request.now.file.now) None false)
+    ensures files { SparesFiles (result_places (string_bytes request.now.file.now) None false)
         (K.deeds desk.old) (K.deeds desk.new) }
     ensures takes { TakesFound D.Disk (given_by request.now) (map string_bytes found.now)
         (K.deeds desk.old) (K.deeds desk.new) result }
@@ -138,7 +138,7 @@ fn take_all<C: Console, E: Write + Progress, D: Disk, K: AllocGlobal + Desk<Disk
     console: &mut C,
     errors: &mut E,
 ) -> u8
-    ensures files { SparesFiles (places_of (string_bytes request.now.file.now) None false)
+    ensures files { SparesFiles (result_places (string_bytes request.now.file.now) None false)
         (K.deeds desk.old) (K.deeds desk.new) }
     ensures takes { archive.old.closed ≡ false
         → (HonestAt D.honest archive.old.pages.disk

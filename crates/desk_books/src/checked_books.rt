@@ -6,7 +6,7 @@ ghost use Rattle.told_books.specs.Fates.{is_dropped};
 ghost use Rattle.told_books.specs.ToldTunes.{book_fault};
 ghost use Rattle.tune_scripts.specs.Streams.{streams_in};
 ghost use Rattle.desk_books.specs.CheckedBooks.{TellsBook, TellsFile, TellsFolder};
-ghost use Rattle.desk_books.specs.CheckedBooks.{TellsInput, TellsName, TellsOneOf, TellsPath};
+ghost use Rattle.desk_books.specs.CheckedBooks.{TellsInput, TellsBookName, TellsOneOf, TellsPath};
 ghost use Rattle.desk_books.specs.CheckedBooks.{TellsPaths, is_book_name, lost_told, taken_line};
 ghost use Rattle.desk_books.specs.Stages.{EachInTurn, stage_of};
 ghost use Rattle.desk_scenes.specs.Scenes.{IsQuiet};
@@ -138,7 +138,7 @@ fn check_names<C: Console, E: Write, K: AllocGlobal + Desk>(
 ) -> u8
     ensures quiet { IsQuiet (K.deeds desk.old) (K.deeds desk.new) }
     ensures told { EachInTurn
-        (λ name. TellsName (string_bytes folder.now) (string_bytes name)) names.now
+        (λ name. TellsBookName (string_bytes folder.now) (string_bytes name)) names.now
         (stage_of C.Console console.old (K.deeds desk.old))
         (stage_of C.Console console.new (K.deeds desk.new)) result }
 {
@@ -158,7 +158,7 @@ fn check_name<C: Console, E: Write, K: AllocGlobal + Desk>(
     errors: &mut E,
 ) -> u8
     ensures quiet { IsQuiet (K.deeds desk.old) (K.deeds desk.new) }
-    ensures told { TellsName (string_bytes folder.now) (string_bytes name.now)
+    ensures told { TellsBookName (string_bytes folder.now) (string_bytes name.now)
         (stage_of C.Console console.old (K.deeds desk.old))
         (stage_of C.Console console.new (K.deeds desk.new)) result }
 {

@@ -7,10 +7,10 @@ ghost use Rattle.tune_store.specs.Limits.{longest_text};
 ghost use Rattle.tune_store.specs.declared.command.Command.TheVariants as command;
 ghost use Rattle.tune_store.specs.declared.layout.Layout.{Layout};
 ghost use Rattle.tune_desk.specs.OldTexts.{GrowsNot};
-ghost use Rattle.tune_desk.specs.Results.{SparesFiles, places_of};
+ghost use Rattle.tune_desk.specs.Results.{SparesFiles, result_places};
 ghost use Rattle.desk_books.specs.AddedBooks.{KeepsBook, TakesBook, TakesChosen, TakesParts};
 ghost use Rattle.desk_books.specs.AddedBooks.{TakesPath, first_course, reached_at};
-ghost use Rattle.desk_books.specs.Givens.{given_by, ReadsBook};
+ghost use Rattle.desk_books.specs.Givens.{given_by, ReadsGivenBook};
 ghost use Rattle.desk_books.specs.Stages.{EachInTurn};
 
 use crate::added_entries::added_entry;
@@ -70,7 +70,7 @@ pub(crate) fn take_books<
     console: &mut C,
     errors: &mut E,
 ) -> u8
-    ensures files { SparesFiles (places_of (string_bytes request.now.file.now) None false)
+    ensures files { SparesFiles (result_places (string_bytes request.now.file.now) None false)
         (K.deeds desk.old) (K.deeds desk.new) }
     ensures takes { EachInTurn
         (λ path. TakesPath S.TuneStore (given_by request.now) (string_bytes path)) paths.now
@@ -97,7 +97,7 @@ fn take_path<C: Console, E: Write + Progress, S: TuneStore + Catalog, K: AllocGl
     console: &mut C,
     errors: &mut E,
 ) -> u8
-    ensures files { SparesFiles (places_of (string_bytes request.now.file.now) None false)
+    ensures files { SparesFiles (result_places (string_bytes request.now.file.now) None false)
         (K.deeds desk.old) (K.deeds desk.new) }
     ensures takes { TakesPath S.TuneStore (given_by request.now) (string_bytes path.now)
         (reached_at (K.deeds desk.old) store.old course.old)
@@ -118,7 +118,7 @@ pub(crate) fn read_book<K: AllocGlobal + Desk>(
     request: &Request,
     path: &String,
 ) -> Result<ByteText, DeskFault>
-    ensures { ReadsBook request.now.input.now (string_bytes path.now) result
+    ensures { ReadsGivenBook request.now.input.now (string_bytes path.now) result
         (K.deeds desk.old) (K.deeds desk.new) }
 {
     if path.as_str() == "-" {
@@ -147,7 +147,7 @@ fn take_book<C: Console, E: Write + Progress, S: TuneStore + Catalog, K: AllocGl
     console: &mut C,
     errors: &mut E,
 ) -> u8
-    ensures files { SparesFiles (places_of (string_bytes request.now.file.now) None false)
+    ensures files { SparesFiles (result_places (string_bytes request.now.file.now) None false)
         (K.deeds desk.old) (K.deeds desk.new) }
     ensures takes { TakesChosen S.TuneStore (given_by request.now) book
         (reached_at (K.deeds desk.old) store.old course.old)
@@ -181,7 +181,7 @@ fn take_choice<C: Console, E: Write + Progress, S: TuneStore + Catalog, K: Alloc
     console: &mut C,
     errors: &mut E,
 ) -> u8
-    ensures files { SparesFiles (places_of (string_bytes request.now.file.now) None false)
+    ensures files { SparesFiles (result_places (string_bytes request.now.file.now) None false)
         (K.deeds desk.old) (K.deeds desk.new) }
     ensures takes { TakesParts S.TuneStore (string_bytes request.now.file.now) choice.parts.items
         (reached_at (K.deeds desk.old) store.old course.old)
@@ -205,7 +205,7 @@ fn take_parts<E: Write + Progress, S: TuneStore + Catalog, K: AllocGlobal + Desk
     tally: &mut Tally,
     errors: &mut E,
 ) -> u8
-    ensures files { SparesFiles (places_of (string_bytes request.now.file.now) None false)
+    ensures files { SparesFiles (result_places (string_bytes request.now.file.now) None false)
         (K.deeds desk.old) (K.deeds desk.new) }
     ensures takes { TakesParts S.TuneStore (string_bytes request.now.file.now) parts.items
         (reached_at (K.deeds desk.old) store.old course.old)
@@ -233,7 +233,7 @@ fn take_part<E: Write, S: TuneStore + Catalog, K: AllocGlobal + Desk>(
     tally: &mut Tally,
     errors: &mut E,
 ) -> u8
-    ensures files { SparesFiles (places_of (string_bytes request.now.file.now) None false)
+    ensures files { SparesFiles (result_places (string_bytes request.now.file.now) None false)
         (K.deeds desk.old) (K.deeds desk.new) }
     ensures takes { TakesBook S.TuneStore (string_bytes request.now.file.now) part
         (reached_at (K.deeds desk.old) store.old course.old)
@@ -264,7 +264,7 @@ fn keep<K: AllocGlobal + Desk>(
     course: &mut Course,
 ) -> Result<(), OldTextsFault>
     requires { brought.now.first + vec_len brought.now.texts < 2 ^ 32 }
-    ensures files { SparesFiles (places_of (string_bytes file.now) None false)
+    ensures files { SparesFiles (result_places (string_bytes file.now) None false)
         (K.deeds desk.old) (K.deeds desk.new) }
     ensures keeps { MatchResult result
         (λ _. (book : List ℕ) (layout : Layout)

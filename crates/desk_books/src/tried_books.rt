@@ -1,6 +1,6 @@
 // Books that are only tried.
 ghost use Rattle.std.specs.Prelude.{◌≡◌, None, false, MatchResult, map, string_bytes};
-ghost use Rattle.tune_desk.specs.Results.{SparesFiles, places_of};
+ghost use Rattle.tune_desk.specs.Results.{SparesFiles, result_places};
 ghost use Rattle.desk_scenes.specs.FileAnswers.{Did, IsAsked, IsUnasked};
 ghost use Rattle.desk_scenes.specs.Scenes.{IsQuiet};
 ghost use Rattle.desk_books.specs.Givens.{given_by};
@@ -42,7 +42,7 @@ pub(crate) fn try_books<C: Console, E: Write + Progress, D: Disk, K: AllocGlobal
     console: &mut C,
     errors: &mut E,
 ) -> u8
-    ensures files { SparesFiles (places_of (string_bytes request.now.file.now) None false)
+    ensures files { SparesFiles (result_places (string_bytes request.now.file.now) None false)
         (K.deeds desk.old) (K.deeds desk.new) }
     ensures tries { TriesFound D.Disk (given_by request.now) (map string_bytes paths.now)
         (K.deeds desk.old) (K.deeds desk.new) result }

@@ -10,13 +10,13 @@ use Rattle.tune_asking.specs.Asking.{IsOnlyAsked}
 use Rattle.tune_changes.specs.declared.turns.Turn.{Turn}
 use Rattle.tune_desk.specs.DeskDeeds.{DeskDeed, closed}
 use Rattle.tune_desk.specs.OldTexts.{GrowsNot}
-use Rattle.tune_desk.specs.Results.{SparesFiles, IsReading, places_of}
+use Rattle.tune_desk.specs.Results.{SparesFiles, IsReading, result_places}
 use Rattle.tune_desk.proofs.SpareLemmas.{spares_one_more, spares_both, spares_none}
 use Rattle.tune_store.specs.State.{State}
 use Rattle.tune_undo.specs.declared.old_entries.EntryKind.{EntryKind}
 use Rattle.desk_scenes.specs.OpenedFile.{Opens}
 use Rattle.desk_changes.specs.ChangedFiles.{Passage, ChangesBy, LeavesAll, IsChangedWithin}
-use Rattle.desk_changes.specs.Inside.Turning.{Turns, Alters, AltersFile}
+use Rattle.desk_changes.specs.Inside.Turning.{TurnsBehindEntry, Alters, AltersFile}
 
 -- nothing was kept
 pub grows_none : {D : Type 0} (file : List ℕ) (was : List (DeskDeed D)) → GrowsNot file was was
@@ -33,7 +33,7 @@ module _ {D : Type 0} (disks : disk.Ghosts D) (file : List ℕ) (kind : EntryKin
   pub look_then : {T A : Type 0} (turns : List Turn) (start mid finish : Shelf D) (was now : List (DeskDeed D)) (result : Result T A)
       → IsOnlyAsked (store_on disks) start mid
       → (HonestAt disks.honest mid.pages.disk → Means (state_of disks.state start) turns)
-      → Turns disks file kind turns result (record { start = mid; finish = finish; was = was; now = now })
+      → TurnsBehindEntry disks file kind turns result (record { start = mid; finish = finish; was = was; now = now })
       → Alters disks file kind Means result (record { start = start; finish = finish; was = was; now = now })
   look_then turns start mid finish was now (Ok done) asked means brings =
       record { turns = turns; mid = mid; looked = asked; means = means; brings = brings }
@@ -71,13 +71,13 @@ module _ {D : Type 0} (disks : disk.Ghosts D) (file : List ℕ) (kind : EntryKin
 -- FILES
 -- opening FILE to change, and closing it, spares files
 pub opens_spares : {D : Type 0} (file : List ℕ) (was mid : List (DeskDeed D)) (deed : DeskDeed D) → mid ≡ was ++ deed ∷ []
-    → IsReading (places_of file None false) deed → SparesFiles (places_of file None false) was mid
+    → IsReading (result_places file None false) deed → SparesFiles (result_places file None false) was mid
 opens_spares file was mid deed e reads =
-    spares_one_more (places_of file None false) was was mid deed (spares_none (places_of file None false) was) e reads
+    spares_one_more (result_places file None false) was was mid deed (spares_none (result_places file None false) was) e reads
 
 pub around_spares : {D : Type 0} (file : List ℕ) (was began ended now : List (DeskDeed D)) (first last : DeskDeed D) → began ≡ was ++ first ∷ []
-    → IsReading (places_of file None false) first → SparesFiles (places_of file None false) began ended → now ≡ ended ++ last ∷ []
-    → IsReading (places_of file None false) last → SparesFiles (places_of file None false) was now
+    → IsReading (result_places file None false) first → SparesFiles (result_places file None false) began ended → now ≡ ended ++ last ∷ []
+    → IsReading (result_places file None false) last → SparesFiles (result_places file None false) was now
 around_spares file was began ended now first last e reads spares f closes =
-    spares_one_more (places_of file None false) was ended now last
-    (spares_both (places_of file None false) was began ended (opens_spares file was began first e reads) spares) f closes
+    spares_one_more (result_places file None false) was ended now last
+    (spares_both (result_places file None false) was began ended (opens_spares file was began first e reads) spares) f closes

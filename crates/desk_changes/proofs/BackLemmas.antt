@@ -8,7 +8,7 @@ use Rattle.tune_store.specs.declared.tune.Tune.{Tune}
 use Rattle.tune_changes.specs.Aims.{aim_for, aimed_back, turn_of}
 use Rattle.tune_changes.specs.Bringing.{brought_each}
 use Rattle.tune_changes.specs.ChangedStates.{AreAlike}
-use Rattle.tune_changes.specs.CommandRuns.{LeadsTo}
+use Rattle.tune_changes.specs.CommandRuns.{LeadsAccepted}
 use Rattle.tune_changes.specs.BroughtParts.{loaded_parts, set_comes, tune_comes}
 use Rattle.tune_changes.specs.SubjectTurns.{Aim, aim_back}
 use Rattle.tune_changes.specs.Undoing.{taken_back}
@@ -65,7 +65,7 @@ loaded_aims state =
     ∙ ap (λ (aims : List Aim). map set_out (reverse names) ++ aims) (sym (map_reverse tune_out numbers))
 
 -- a load is taken back from the state that it made, whatever its revisions are now
-pub loads_back : (state now : State) → IsState now → AreAlike now state → LeadsTo now (loaded_back state now) (empty_of now.layout)
+pub loads_back : (state now : State) → IsState now → AreAlike now state → LeadsAccepted now (loaded_back state now) (empty_of now.layout)
 loads_back state now is alike =
-    subst (λ parts. LeadsTo now (aimed_back (aims_by parts) now) (empty_of now.layout)) (sym (alike_parts state now alike))
-    (subst (λ (aims : List Aim). LeadsTo now (brought_each aims now) (empty_of now.layout)) (sym (loaded_aims now)) (unloaded now is))
+    subst (λ parts. LeadsAccepted now (aimed_back (aims_by parts) now) (empty_of now.layout)) (sym (alike_parts state now alike))
+    (subst (λ (aims : List Aim). LeadsAccepted now (brought_each aims now) (empty_of now.layout)) (sym (loaded_aims now)) (unloaded now is))

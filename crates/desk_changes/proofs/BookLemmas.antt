@@ -6,13 +6,13 @@ use Rattle.std.specs.List.{AllByRecursion}
 use Rattle.tune_undo.specs.OldEntries.{StepValue, step_value}
 use Rattle.tune_undo.specs.declared.old_entries.Step.{Step}
 use Rattle.desk_changes.specs.Inside.TriedUndoings.{steps_of, EndsFrom}
-use Rattle.desk_changes.specs.OldChanges.{BookChange, begins_further, changes_of, is_further, put_before}
+use Rattle.desk_changes.specs.OldChanges.{BookChange, begins_further, changes_of_steps, is_further, put_before}
 
 -- entries of which each is of a further book of an add
 abbrev pub AreFurther : List StepValue → Type 0
 AreFurther steps = AllByRecursion (λ step. is_further step.entry.kind ≡ true) steps
 
-pub one_change : (step : StepValue) (more : List StepValue) → AreFurther more → changes_of (step ∷ more) ≡ (step ∷ more) ∷ []
+pub one_change : (step : StepValue) (more : List StepValue) → AreFurther more → changes_of_steps (step ∷ more) ≡ (step ∷ more) ∷ []
 one_change step [] further = refl
 one_change step (other ∷ more) further =
     ap (put_before step) (one_change other more further.1)
@@ -29,11 +29,11 @@ put_more step (other ∷ changes) change first =
     if_append (begins_further other) ((step ∷ other) ∷ changes) ((step ∷ []) ∷ other ∷ changes) (change ∷ [])
 
 -- entries before a change
-pub front_stays : (steps : List StepValue) (change : BookChange) → begins_further change ≡ false → changes_of change ≡ change ∷ []
-    → changes_of (steps ++ change) ≡ changes_of steps ++ change ∷ []
+pub front_stays : (steps : List StepValue) (change : BookChange) → begins_further change ≡ false → changes_of_steps change ≡ change ∷ []
+    → changes_of_steps (steps ++ change) ≡ changes_of_steps steps ++ change ∷ []
 front_stays [] change first one = one
 front_stays (step ∷ steps) change first one =
-    ap (put_before step) (front_stays steps change first one) ∙ put_more step (changes_of steps) change first
+    ap (put_before step) (front_stays steps change first one) ∙ put_more step (changes_of_steps steps) change first
 
 pub split_at : (changes : List Step) (first : ℕ) → steps_of changes ≡ steps_of (take first changes) ++ steps_of (drop first changes)
 split_at changes first =
@@ -45,9 +45,9 @@ pub ends_at : (changes later : List Step) (first : ℕ) (step : Step) → drop f
 ends_at changes later first step at other further =
     let change = step_value step ∷ steps_of later in
     let same : steps_of (drop first changes) ≡ change = ap steps_of at in
-    ap changes_of (split_at changes first ∙ ap (λ some. steps_of (take first changes) ++ some) same)
+    ap changes_of_steps (split_at changes first ∙ ap (λ some. steps_of (take first changes) ++ some) same)
     ∙ front_stays (steps_of (take first changes)) change other (one_change (step_value step) (steps_of later) further)
-    ∙ ap (λ (some : BookChange). changes_of (steps_of (take first changes)) ++ some ∷ []) (sym same)
+    ∙ ap (λ (some : BookChange). changes_of_steps (steps_of (take first changes)) ++ some ∷ []) (sym same)
 
 -- from the first one
 pub ends_first : (changes : List Step) (first : ℕ) → first ≡ 0 → 0 < length changes → AreFurther (steps_of (drop first changes)) → EndsFrom first changes

@@ -10,24 +10,24 @@ use Rattle.tune_scripts.specs.Consoles.{OutputTold}
 use Rattle.tune_scripts.specs.Streams.{Streams, streams_in}
 use Rattle.tune_scripts.specs.declared.console.Console as console
 use Rattle.tune_asking.specs.AskingCalls.{tune_or, tune_told}
-use Rattle.tune_changes.specs.Planning.{alone, planned_replace, text_replaced}
+use Rattle.tune_changes.specs.Planning.{one_turn, planned_replace, text_replaced}
 use Rattle.tune_changes.specs.declared.turns.Turn.{Turn}
 use Rattle.tune_desk.specs.DeskDeeds.{DeskDeed}
-use Rattle.desk_scenes.specs.Printing.{ReadsAll, WritesOut}
+use Rattle.desk_scenes.specs.Printing.{ReadsAll, WritesOrFails}
 use Rattle.desk_scenes.specs.Scenes.{Scene}
-use Rattle.desk_changes.specs.ReplacedTunes.{IsBookOf, ReadsBook, ReadsText, ReplacesText}
+use Rattle.desk_changes.specs.ReplacedTunes.{IsBookOf, ReadsOneBook, ReadsText, ReplacesText}
 use Rattle.desk_changes.specs.declared.replacing.Replacement.{Replacement}
 
 -- THE BOOK
 -- standard input, as a book
 pub input_is_book : {D : Type 0} (path : List ℕ) (result : Option (List ℕ)) (streams : Streams) (was : List (DeskDeed D)) → path ≡ codes "-"
-    → IfSome result (ReadsAll streams) → IfSome result (λ book. ReadsBook path book streams was was)
+    → IfSome result (ReadsAll streams) → IfSome result (λ book. ReadsOneBook path book streams was was)
 input_is_book path None streams was dash reads = tt
 input_is_book path (Some book) streams was dash reads = inl (dash, reads, refl)
 
 -- the text of a book that was read
 pub text_is_read : {D : Type 0} (path book : List ℕ) (result : Option (List ℕ)) (streams : Streams) (was now : List (DeskDeed D))
-    → ReadsBook path book streams was now → IfSome result (λ text. IsBookOf text book) → IfSome result (λ text. ReadsText path text streams was now)
+    → ReadsOneBook path book streams was now → IfSome result (λ text. IsBookOf text book) → IfSome result (λ text. ReadsText path text streams was now)
 text_is_read path book None streams was now reads is = tt
 text_is_read path book (Some text) streams was now reads is = (book, reads, is)
 
@@ -40,7 +40,7 @@ reads_on kept path text old mid new was now same (book, inr (other, still, e), i
 -- WHAT IT COMES TO
 -- no tune has the number
 unknown_by : (number : ℕ) (revision : Option ℕ) (text : List ℕ) (there : Option Tune) (refusal : Refusal) → tune_or number there ≡ Err refusal
-    → alone (text_replaced number revision text there) ≡ Err refusal
+    → one_turn (text_replaced number revision text there) ≡ Err refusal
 unknown_by number revision text None refusal e = (let same : Unknown number ≡ refusal = cc in ap (λ r. Err r) same)
 unknown_by number revision text (Some tune) refusal e = absurd cc
 
@@ -64,7 +64,7 @@ module _ {D : Type 0} (disks : disk.Ghosts D) (file : List ℕ) (what : Replacem
     changes,
     inl (
       done,
-      subst (λ (out : OutputTold). WritesOut (record {
+      subst (λ (out : OutputTold). WritesOrFails (record {
         input = record { was = kept.input old; now = kept.input new };
         output = record { was = out; now = kept.output new };
       }) line status) same written,

@@ -28,20 +28,20 @@ use Rattle.tune_undo.specs.declared.old_entries.Step.{Step}
 use Rattle.tune_desk.specs.OldTexts.{Grows}
 use Rattle.desk_changes.specs.ChangedFiles.{Passage, IsChangedWithin}
 use Rattle.desk_changes.specs.Inside.TriedUndoings.{EndsFrom, FindsSteps, steps_of, TriesEntries, TriesChange, TriesTimes, TriesByBook, TriesWithin}
-use Rattle.desk_changes.specs.OldChanges.{BookChange, changes_of, ReadsSteps}
-use Rattle.desk_changes.specs.TakenBack.{Begins, IsAccepted, all_gone_by, entry_of_texts, gone_by}
-use Rattle.desk_changes.specs.TakenBack.{FindsUnchanged, KeepsTexts, RenumbersOne, UndoesEntry, UndoesEntries, UndoesChange}
+use Rattle.desk_changes.specs.OldChanges.{BookChange, changes_of_steps, ReadsSteps}
+use Rattle.desk_changes.specs.TakenBack.{BeginsUndoing, IsAccepted, all_gone_by, entry_of_texts, gone_by}
+use Rattle.desk_changes.specs.TakenBack.{FindsUnchanged, KeepsOldTexts, RenumbersOne, UndoesEntry, UndoesEntries, UndoesChange}
 use Rattle.desk_changes.specs.TakenBack.{BreaksOffEntry, BreaksOffEntries, BreaksOffChange}
 use Rattle.desk_changes.proofs.BookLemmas.{split_at}
 use Rattle.desk_changes.specs.Undone.{GoesBack, UndoesLast, UndoesFewer, UsesBook, FindsNoBook}
 
 -- texts that are kept, where there are any
 pub keeps_some : {D : Type 0} (file : List ℕ) (parts : List Part) (was now : List (DeskDeed D)) → parts ≢ []
-    → Grows file (entry_bytes (entry_of_texts parts)) was now → KeepsTexts file parts was now
+    → Grows file (entry_bytes (entry_of_texts parts)) was now → KeepsOldTexts file parts was now
 keeps_some file [] was now some grows = absurd (some refl)
 keeps_some file (part ∷ parts) was now some grows = grows
 
-pub keeps_none : {D : Type 0} (file : List ℕ) (parts : List Part) (was : List (DeskDeed D)) → parts ≡ [] → KeepsTexts file parts was was
+pub keeps_none : {D : Type 0} (file : List ℕ) (parts : List Part) (was : List (DeskDeed D)) → parts ≡ [] → KeepsOldTexts file parts was was
 keeps_none file [] was none = refl
 keeps_none file (part ∷ parts) was none = absurd cc
 
@@ -65,15 +65,15 @@ module _ {D : Type 0} (disks : disk.Ghosts D) where
   -- where an undoing was begun, or not
   pub begun_none : (file : List ℕ) (begun : Option ℕ) (greatest : ℕ) (here : Shelf D) (was now : List (DeskDeed D)) → begun ≡ None
       → Grows file (mark_bytes (Undoing greatest)) was now
-      → Begins disks file begun (record { start = here; finish = here; was = was; now = now })
+      → BeginsUndoing disks file begun (record { start = here; finish = here; was = was; now = now })
   begun_none file begun greatest here was now none grows =
-      subst (λ (b : Option ℕ). Begins disks file b (record { start = here; finish = here; was = was; now = now })) (sym none) (refl, (greatest, grows))
+      subst (λ (b : Option ℕ). BeginsUndoing disks file b (record { start = here; finish = here; was = was; now = now })) (sym none) (refl, (greatest, grows))
 
   pub begun_some : (file : List ℕ) (begun : Option ℕ) (greatest : ℕ) (start finish : Shelf D) (was : List (DeskDeed D)) → begun ≡ Some greatest
       → RenumbersOne disks IsAccepted start finish
-      → Begins disks file begun (record { start = start; finish = finish; was = was; now = was })
+      → BeginsUndoing disks file begun (record { start = start; finish = finish; was = was; now = was })
   begun_some file begun greatest start finish was some renumbers =
-      subst (λ (b : Option ℕ). Begins disks file b (record { start = start; finish = finish; was = was; now = was })) (sym some) (renumbers, refl)
+      subst (λ (b : Option ℕ). BeginsUndoing disks file b (record { start = start; finish = finish; was = was; now = was })) (sym some) (renumbers, refl)
 
   module _ (file : List ℕ) where
     -- entries behind a look
@@ -116,14 +116,14 @@ module _ {D : Type 0} (disks : disk.Ghosts D) where
     pub record BackTo (changes : List Step) (left wanted count : ℕ) (course : Passage D) : Type 0 where
       pub gone : List BookChange
       pub taken : ℕ
-      pub split : changes_of (steps_of changes) ≡ changes_of (steps_of (take left changes)) ++ gone
+      pub split : changes_of_steps (steps_of changes) ≡ changes_of_steps (steps_of (take left changes)) ++ gone
       pub counted : taken + wanted ≡ count
       pub back : GoesBack disks file gone taken course
 
     -- the changes that are left end in one
     abbrev pub EndsIn : List Step → ℕ → ℕ → BookChange → Type 0
     EndsIn changes left first change =
-        changes_of (steps_of (take left changes)) ≡ changes_of (steps_of (take first changes)) ++ change ∷ []
+        changes_of_steps (steps_of (take left changes)) ≡ changes_of_steps (steps_of (take first changes)) ++ change ∷ []
 
     pub ends_in : (changes : List Step) (left first : ℕ) → first ≤ left → EndsFrom first (take left changes)
         → EndsIn changes left first (steps_of (take (left - first) (drop first changes)))
@@ -131,14 +131,14 @@ module _ {D : Type 0} (disks : disk.Ghosts D) where
         let on : first + (left - first) ≡ left = omega (arith, within) in
         let same : drop first (take left changes) ≡ take (left - first) (drop first changes) =
         ap (λ n. drop first (take n changes)) (sym on) ∙ drop-take first (left - first) changes in
-        ends ∙ ap (λ l. changes_of (steps_of l) ++ steps_of (drop first (take left changes)) ∷ []) (take-take first left changes within)
-        ∙ ap (λ l. changes_of (steps_of (take first changes)) ++ steps_of l ∷ []) same
+        ends ∙ ap (λ l. changes_of_steps (steps_of l) ++ steps_of (drop first (take left changes)) ∷ []) (take-take first left changes within)
+        ∙ ap (λ l. changes_of_steps (steps_of (take first changes)) ++ steps_of l ∷ []) same
 
     split_more : (changes : List Step) (left first : ℕ) (change : BookChange) (gone : List BookChange) → EndsIn changes left first change
-        → changes_of (steps_of changes) ≡ changes_of (steps_of (take left changes)) ++ gone
-        → changes_of (steps_of changes) ≡ changes_of (steps_of (take first changes)) ++ change ∷ gone
+        → changes_of_steps (steps_of changes) ≡ changes_of_steps (steps_of (take left changes)) ++ gone
+        → changes_of_steps (steps_of changes) ≡ changes_of_steps (steps_of (take first changes)) ++ change ∷ gone
     split_more changes left first change gone ends split =
-        split ∙ ap (λ some. some ++ gone) ends ∙ append_assoc (changes_of (steps_of (take first changes))) (change ∷ []) gone
+        split ∙ ap (λ some. some ++ gone) ends ∙ append_assoc (changes_of_steps (steps_of (take first changes))) (change ∷ []) gone
 
     -- one more, in which there was something to be taken back, or not
     pub one_taken : (changes : List Step) (left first wanted fewer count : ℕ) (change : BookChange)
@@ -172,7 +172,7 @@ module _ {D : Type 0} (disks : disk.Ghosts D) where
     back_none changes left count here was all = record {
       gone = [];
       taken = 0;
-      split = ap (λ some. changes_of (steps_of some)) (sym all) ∙ sym (append-nil (changes_of (steps_of (take left changes))));
+      split = ap (λ some. changes_of_steps (steps_of some)) (sym all) ∙ sym (append-nil (changes_of_steps (steps_of (take left changes))));
       counted = omega arith;
       back = (refl, (refl, refl));
     }
@@ -181,7 +181,7 @@ module _ {D : Type 0} (disks : disk.Ghosts D) where
     pub last_undone : (changes : List Step) (left wanted count : ℕ) (course : Passage D) → BackTo changes left wanted count course → wanted ≡ 0
         → UndoesLast disks file count (steps_of changes) course
     last_undone changes left wanted count course so none = record {
-      earlier = changes_of (steps_of (take left changes));
+      earlier = changes_of_steps (steps_of (take left changes));
       gone = so.gone;
       split = so.split;
       back = let counted = so.counted in
@@ -194,7 +194,7 @@ module _ {D : Type 0} (disks : disk.Ghosts D) where
         → BackTo changes left wanted count (record { start = start; finish = finish; was = was; now = now }) → 0 < wanted → left ≡ 0
         → UndoesFewer disks file count (steps_of changes) (record { start = start; finish = finish; was = was; now = now })
     none_left changes left wanted count start finish was now so more none = record {
-      earlier = changes_of (steps_of (take left changes));
+      earlier = changes_of_steps (steps_of (take left changes));
       gone = so.gone;
       split = so.split;
       taken = so.taken;
@@ -202,7 +202,7 @@ module _ {D : Type 0} (disks : disk.Ghosts D) where
       mid = finish;
       deeds = now;
       back = so.back;
-      ends = inl (ap (λ (n : ℕ). changes_of (steps_of (take n changes))) none, (refl, refl));
+      ends = inl (ap (λ (n : ℕ). changes_of_steps (steps_of (take n changes))) none, (refl, refl));
     }
 
     -- the next one was broken off
@@ -211,7 +211,7 @@ module _ {D : Type 0} (disks : disk.Ghosts D) where
         → BreaksOffChange disks file change (record { start = mid; finish = finish; was = deeds; now = now })
         → UndoesFewer disks file count (steps_of changes) (record { start = start; finish = finish; was = was; now = now })
     next_broken changes left first wanted count change start mid finish was deeds now so ends more breaks = record {
-      earlier = changes_of (steps_of (take left changes));
+      earlier = changes_of_steps (steps_of (take left changes));
       gone = so.gone;
       split = so.split;
       taken = so.taken;
@@ -219,7 +219,7 @@ module _ {D : Type 0} (disks : disk.Ghosts D) where
       mid = mid;
       deeds = deeds;
       back = so.back;
-      ends = inr (changes_of (steps_of (take first changes)), change, ends, breaks);
+      ends = inr (changes_of_steps (steps_of (take first changes)), change, ends, breaks);
     }
 
     -- behind the reading of the book

@@ -10,7 +10,7 @@ use Rattle.tune_scripts.proofs.CarriedLemmas.{carries_more}
 use Rattle.tune_store.specs.declared.command.Command.{Command}
 use Rattle.tune_store.specs.declared.command.Refusal.{Refusal}
 use Rattle.tune_desk.specs.DeskDeeds.{DeskDeed}
-use Rattle.tune_desk.specs.Results.{SparesFiles, places_of}
+use Rattle.tune_desk.specs.Results.{SparesFiles, result_places}
 use Rattle.tune_desk.proofs.SpareLemmas.{spares_both, spares_none}
 use Rattle.desk_changes.specs.ChangedFiles.{Passage}
 use Rattle.desk_changes.specs.Inside.Works.{Works, WorksBeside}
@@ -50,20 +50,20 @@ module _ {D : Type 0} (disks : disk.Ghosts D) where
     course_of start finish was now = record { start = start; finish = finish; was = was; now = now }
 
     pub beside_none : (here : Shelf D) (was : List (DeskDeed D)) → WorksBeside disks file (course_of here here was was)
-    beside_none here was = record { works = works_none here; spares = spares_none (places_of file None false) was }
+    beside_none here was = record { works = works_none here; spares = spares_none (result_places file None false) was }
 
     pub beside_both : (start mid finish : Shelf D) (was then_ now : List (DeskDeed D)) → WorksBeside disks file (course_of start mid was then_)
         → WorksBeside disks file (course_of mid finish then_ now) → WorksBeside disks file (course_of start finish was now)
     beside_both start mid finish was then_ now first second = record {
       works = works_both start mid finish first.works second.works;
-      spares = spares_both (places_of file None false) was then_ now first.spares second.spares;
+      spares = spares_both (result_places file None false) was then_ now first.spares second.spares;
     }
 
     -- the archive alone was worked on; the book of old texts alone grew
     pub beside_archive : (start finish : Shelf D) (was : List (DeskDeed D)) → Works disks start finish → WorksBeside disks file (course_of start finish was was)
-    beside_archive start finish was works = record { works = works; spares = spares_none (places_of file None false) was }
+    beside_archive start finish was works = record { works = works; spares = spares_none (result_places file None false) was }
 
-    pub beside_files : (here : Shelf D) (was now : List (DeskDeed D)) → SparesFiles (places_of file None false) was now
+    pub beside_files : (here : Shelf D) (was now : List (DeskDeed D)) → SparesFiles (result_places file None false) was now
         → WorksBeside disks file (course_of here here was now)
     beside_files here was now spares = record { works = works_none here; spares = spares }
 
@@ -77,5 +77,5 @@ module _ {D : Type 0} (disks : disk.Ghosts D) where
     then_works start mid finish was now first works = beside_both start mid finish was now now first (beside_archive mid finish now works)
 
     pub then_files : (start finish : Shelf D) (was mid now : List (DeskDeed D)) → WorksBeside disks file (course_of start finish was mid)
-        → SparesFiles (places_of file None false) mid now → WorksBeside disks file (course_of start finish was now)
+        → SparesFiles (result_places file None false) mid now → WorksBeside disks file (course_of start finish was now)
     then_files start finish was mid now first spares = beside_both start finish finish was mid now first (beside_files finish mid now spares)

@@ -3,7 +3,7 @@ use Rattle.std.specs.Prelude.{List}
 use Rattle.tune_store.specs.State.{State}
 use Rattle.tune_store.specs.declared.command.Command.{Command}
 use Rattle.tune_changes.specs.ChangedStates.{AreAlike}
-use Rattle.tune_changes.specs.CommandRuns.{LeadsTo}
+use Rattle.tune_changes.specs.CommandRuns.{LeadsAccepted}
 use Rattle.tune_changes.specs.Aims.{aimed_back}
 use Rattle.tune_changes.specs.BroughtParts.{loaded_parts}
 use Rattle.tune_changes.specs.declared.turns.Turn.{Turn}
@@ -21,4 +21,4 @@ loaded_back state now = aimed_back (aims_by (loaded_parts state)) now
 
 -- these commands lead from a state to one that is alike another, and none of them is refused
 abbrev pub LeadsBack : List Command → State → State → Type 0
-LeadsBack commands now old = (back : State) × LeadsTo now commands back × AreAlike back old
+LeadsBack commands now old = (back : State) × LeadsAccepted now commands back × AreAlike back old

@@ -35,7 +35,8 @@ pub record LeavesAll {D : Type 0} (disks : disk.Ghosts D) (file : List ℕ) (cou
   pub unkept : GrowsNot file course.was course.now
 
 -- An entry of these turns was kept, and then they were brought about, all of them or the first.
-pub record BringsAbout {D : Type 0} (disks : disk.Ghosts D) (file : List ℕ) (kind : EntryKind)
+pub record KeepsAndBringsAbout {D : Type 0} (disks : disk.Ghosts D) (file : List ℕ)
+    (kind : EntryKind)
     (turns : List Turn) (result : Result (Unit {0}) Refusal) (course : Passage D) : Type 0 where
   pub kept : Grows file (entry_bytes (entry_of kind turns)) course.was course.now
   pub carried : Carries (store_on disks) course.start course.finish
@@ -50,7 +51,7 @@ pub record ChangesBy {D : Type 0} (disks : disk.Ghosts D) (file : List ℕ) (kin
   pub mid : Shelf D
   pub looked : IsOnlyAsked (store_on disks) course.start mid
   pub means : HonestAt disks.honest mid.pages.disk → Means (state_of disks.state course.start) turns
-  pub brings : BringsAbout disks file kind turns result (record course { start = mid })
+  pub brings : KeepsAndBringsAbout disks file kind turns result (record course { start = mid })
 
 -- AROUND IT
 -- FILE was opened to change, on a disk that held an archive; this archive became another one, whose

@@ -11,12 +11,12 @@ use Rattle.tune_undo.specs.declared.old_entries.Part.{Part}
 use Rattle.tune_undo.specs.declared.old_entries.Part.TheVariants.{Tune, Set}
 
 -- a text that is to be, by its sum
-abbrev pub after_of : Option (List ℕ) → After
-after_of None = Nothing
-after_of (Some text) = Text (sha256 text)
+abbrev pub after_of_text : Option (List ℕ) → After
+after_of_text None = Nothing
+after_of_text (Some text) = Text (sha256 text)
 
 abbrev pub part_of : Turn → Part
-part_of (turn.Tune number was is) = Tune number was (after_of is)
+part_of (turn.Tune number was is) = Tune number was (after_of_text is)
 part_of (turn.Set name was is) = Set name was is
 
 abbrev pub entry_of : EntryKind → List Turn → EntryValue

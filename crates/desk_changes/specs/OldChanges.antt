@@ -1,7 +1,7 @@
 -- The changes of a book of old texts that are not undone.
 use Rattle.std.specs.Prelude.{◌≡◌, ℕ, List, [], ◌∷◌, ◌++◌, Bool, true, false, if◌then◌else◌, Ok}
 use Rattle.tune_undo.specs.OldEntries.{StepValue}
-use Rattle.tune_undo.specs.OldItems.{Item, Top, IsLog, standing}
+use Rattle.tune_undo.specs.OldItems.{Item, Top, IsItemLog, standing}
 use Rattle.tune_undo.specs.OldTextLaws.{made_ready}
 use Rattle.tune_undo.specs.declared.old_entries.EntryKind.{EntryKind}
 use Rattle.tune_undo.specs.declared.old_entries.EntryKind.TheVariants as kind
@@ -29,9 +29,9 @@ put_before step (change ∷ changes) =
     else (step ∷ []) ∷ change ∷ changes
 
 -- the changes of these entries, the first one first
-abbrev pub changes_of : List StepValue → List BookChange
-changes_of [] = []
-changes_of (step ∷ steps) = put_before step (changes_of steps)
+abbrev pub changes_of_steps : List StepValue → List BookChange
+changes_of_steps [] = []
+changes_of_steps (step ∷ steps) = put_before step (changes_of_steps steps)
 
 -- The book of old texts of FILE was read, and these are the entries of it that are not undone. The
 -- book is read as it is once its last line is ended.
@@ -40,5 +40,5 @@ pub record ReadsSteps {D : Type 0} (file : List ℕ) (steps : List StepValue)
   pub book : List ℕ
   pub items : List Item
   pub deed : now ≡ was ++ read (old_of file) (Ok book) ∷ []
-  pub log : IsLog Top (made_ready book) items
+  pub log : IsItemLog Top (made_ready book) items
   pub are : steps ≡ standing items

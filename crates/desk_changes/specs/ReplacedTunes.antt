@@ -14,7 +14,7 @@ use Rattle.tune_changes.specs.Planning.{planned_replace}
 use Rattle.tune_changes.specs.declared.turns.Turn.{Turn}
 use Rattle.tune_undo.specs.declared.old_entries.EntryKind.TheVariants as kind
 use Rattle.tune_desk.specs.DeskDeeds.{DeskDeed, read}
-use Rattle.desk_scenes.specs.Printing.{ReadsAll, WritesNothing, WritesOut}
+use Rattle.desk_scenes.specs.Printing.{ReadsAll, WritesNothing, WritesOrFails}
 use Rattle.desk_scenes.specs.Scenes.{IsQuiet, Scene}
 use Rattle.desk_changes.specs.ChangedFiles.{ChangesFile}
 use Rattle.desk_changes.specs.declared.replacing.Replacement.{Replacement}
@@ -28,9 +28,9 @@ pub record Replacing : Type 0 where
 
 -- THE BOOK
 -- It was read: standard input to its end, for `-`, or a file.
-abbrev pub ReadsBook : {D : Type 0} → List ℕ → List ℕ → Streams → List (DeskDeed D)
+abbrev pub ReadsOneBook : {D : Type 0} → List ℕ → List ℕ → Streams → List (DeskDeed D)
     → List (DeskDeed D) → Type 0
-ReadsBook path book streams was now =
+ReadsOneBook path book streams was now =
     ((path ≡ codes "-") × ReadsAll streams book × (now ≡ was))
     ⊎ ((path ≢ codes "-") × (streams.input.now ≡ streams.input.was)
     × (now ≡ was ++ read path (Ok book) ∷ []))
@@ -44,31 +44,31 @@ pub record IsBookOf (text book : List ℕ) : Type 0 where
 abbrev pub ReadsText : {D : Type 0} → List ℕ → List ℕ → Streams → List (DeskDeed D)
     → List (DeskDeed D) → Type 0
 ReadsText path text streams was now =
-    (book : List ℕ) × ReadsBook path book streams was now × IsBookOf text book
+    (book : List ℕ) × ReadsOneBook path book streams was now × IsBookOf text book
 
 -- FILE
 -- the line that tells of a tune which gets a text: the revision that it has then, or that it had
 -- this text before
-abbrev pub line_of : Replacement → Option Tune → List ℕ
-line_of what None = []
-line_of what (Some tune) = if bytes_eq tune.text what.text
+abbrev pub replaced_line : Replacement → Option Tune → List ℕ
+replaced_line what None = []
+replaced_line what (Some tune) = if bytes_eq tune.text what.text
     then codes "tune " ++ decimal what.number ++ codes " is not changed\n"
     else codes "tune " ++ decimal what.number ++ codes " has revision "
     ++ decimal (tune.revision + 1) ++ codes " now\n"
 
 -- These turns, and this line, are what a replacement comes to.
-pub record Replaces (what : Replacement) (line : List ℕ) (state : State) (turns : List Turn)
+pub record ReplacesByTurns (what : Replacement) (line : List ℕ) (state : State) (turns : List Turn)
     : Type 0 where
   pub planned : planned_replace what.number what.revision what.text state ≡ Ok turns
-  pub told : line ≡ line_of what (tune_at what.number state.tunes)
+  pub told : line ≡ replaced_line what (tune_at what.number state.tunes)
 
 -- FILE was changed by them, and the line was printed; or FILE was not, the status says so, and
 -- nothing was printed.
 abbrev pub ReplacesText : {D : Type 0} → disk.Ghosts D → List ℕ → Replacement → Scene D → Type 0
 ReplacesText disks file what scene = (line : List ℕ) × (changed : ℕ)
-    × ChangesFile disks file kind.Replace (Replaces what line)
+    × ChangesFile disks file kind.Replace (ReplacesByTurns what line)
     (record { was = scene.was; now = scene.now; status = changed })
-    × (((changed ≡ 0) × WritesOut scene.streams line scene.status)
+    × (((changed ≡ 0) × WritesOrFails scene.streams line scene.status)
     ⊎ ((changed ≢ 0) × WritesNothing scene.streams × (scene.status ≡ changed)))
 
 -- THE THEOREM OF A REPLACEMENT. A book was read, and so FILE was changed, or not; or the book was

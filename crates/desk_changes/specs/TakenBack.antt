@@ -77,10 +77,10 @@ abbrev pub entry_of_texts : List Part → EntryValue
 entry_of_texts parts = record { kind = Kept; parts = parts }
 
 -- an entry of texts was put at the end of the book of old texts, if there are any
-abbrev pub KeepsTexts : {D : Type 0} → List ℕ → List Part → List (DeskDeed D) → List (DeskDeed D)
+abbrev pub KeepsOldTexts : {D : Type 0} → List ℕ → List Part → List (DeskDeed D) → List (DeskDeed D)
     → Type 0
-KeepsTexts file [] was now = now ≡ was
-KeepsTexts file parts was now = Grows file (entry_bytes (entry_of_texts parts)) was now
+KeepsOldTexts file [] was now = now ≡ was
+KeepsOldTexts file parts was now = Grows file (entry_bytes (entry_of_texts parts)) was now
 
 -- FILE was asked for the texts that go, and they were kept.
 pub record KeepsGone {D : Type 0} (disks : disk.Ghosts D) (file : List ℕ) (parts : List Part)
@@ -89,7 +89,7 @@ pub record KeepsGone {D : Type 0} (disks : disk.Ghosts D) (file : List ℕ) (par
   pub asked : IsOnlyAsked (store_on disks) course.start course.finish
   pub are : course.start.closed ≡ false → HonestAt disks.honest course.finish.pages.disk
       → gone ≡ all_gone_by parts (state_of disks.state course.start)
-  pub keeps : KeepsTexts file gone course.was course.now
+  pub keeps : KeepsOldTexts file gone course.was course.now
 
 -- A STOP WITHIN AN UNDOING
 -- At most one tune was to get another number, which was answered so; before that FILE was asked.
@@ -105,10 +105,10 @@ IsAccepted result = (reply : Reply) × (result ≡ Ok reply)
 
 -- A mark was put that an undoing begins; or, where it was begun before, a tune that had come back
 -- without its number got it.
-abbrev pub Begins : {D : Type 0} → disk.Ghosts D → List ℕ → Option ℕ → Passage D → Type 0
-Begins disks file None course = (course.finish ≡ course.start)
+abbrev pub BeginsUndoing : {D : Type 0} → disk.Ghosts D → List ℕ → Option ℕ → Passage D → Type 0
+BeginsUndoing disks file None course = (course.finish ≡ course.start)
     × ((greatest : ℕ) × Grows file (mark_bytes (Undoing greatest)) course.was course.now)
-Begins disks file (Some greatest) course =
+BeginsUndoing disks file (Some greatest) course =
     RenumbersOne disks IsAccepted course.start course.finish × (course.now ≡ course.was)
 
 -- ONE ENTRY
@@ -144,7 +144,7 @@ pub record TakesEntryBack {D : Type 0} (disks : disk.Ghosts D) (file : List ℕ)
   pub stood : Stood (store_on disks) course.start judged (IsUnchanged step.entry.parts)
   pub keeps : KeepsGone disks file step.entry.parts
       (record { start = judged; finish = kept; was = course.was; now = was_kept })
-  pub begins : Begins disks file step.begun
+  pub begins : BeginsUndoing disks file step.begun
       (record { start = kept; finish = ready; was = was_kept; now = was_begun })
   pub brings : BringsBack disks file step.entry.parts
       (record course { start = ready; was = was_begun })

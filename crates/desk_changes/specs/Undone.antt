@@ -13,7 +13,7 @@ use Rattle.desk_scenes.specs.Printing.{Prints}
 use Rattle.desk_scenes.specs.Scenes.{Scene, IsQuiet}
 use Rattle.desk_scenes.specs.Visits.{Visits}
 use Rattle.desk_changes.specs.ChangedFiles.{Passage, IsChangedWithin}
-use Rattle.desk_changes.specs.OldChanges.{BookChange, changes_of, ReadsSteps}
+use Rattle.desk_changes.specs.OldChanges.{BookChange, changes_of_steps, ReadsSteps}
 use Rattle.desk_changes.specs.TakenBack.{IsStill, UndoesChange, BreaksOffChange}
 
 -- These changes were undone, the last one first, and in so many of them there was something to be
@@ -32,7 +32,7 @@ pub record UndoesLast {D : Type 0} (disks : disk.Ghosts D) (file : List ℕ) (co
     (steps : List StepValue) (course : Passage D) : Type 0 where
   pub earlier : List BookChange
   pub gone : List BookChange
-  pub split : changes_of steps ≡ earlier ++ gone
+  pub split : changes_of_steps steps ≡ earlier ++ gone
   pub back : GoesBack disks file gone count course
 
 -- What ended an undoing before: no change was left; or the last one that was left was not undone.
@@ -48,7 +48,7 @@ pub record UndoesFewer {D : Type 0} (disks : disk.Ghosts D) (file : List ℕ) (c
     (steps : List StepValue) (course : Passage D) : Type 0 where
   pub earlier : List BookChange
   pub gone : List BookChange
-  pub split : changes_of steps ≡ earlier ++ gone
+  pub split : changes_of_steps steps ≡ earlier ++ gone
   pub taken : ℕ
   pub fewer : taken < count
   pub mid : Shelf D

@@ -3,10 +3,10 @@ ghost use Rattle.std.specs.Prelude.{◌≡◌, None, false, Ok, string_bytes};
 ghost use Rattle.tune_pages.specs.Kept.{HonestAt};
 ghost use Rattle.tune_archive.specs.Shelf.{state_of};
 ghost use Rattle.tune_changes.specs.Planning.{planned_by};
-ghost use Rattle.tune_desk.specs.Results.{SparesFiles, places_of};
+ghost use Rattle.tune_desk.specs.Results.{SparesFiles, result_places};
 ghost use Rattle.desk_changes.specs.ChangedFiles.{ChangesFile};
 ghost use Rattle.desk_changes.specs.Inside.Turning.{Alters, AltersFile};
-ghost use Rattle.desk_changes.specs.Kinds.{kind_of};
+ghost use Rattle.desk_changes.specs.Kinds.{kind_of_alteration};
 
 use crate::held_tunes::held_number;
 use crate::turning::carry;
@@ -29,9 +29,9 @@ pub fn alter<E: Write, D: Disk, K: AllocGlobal + Desk<Disk = D>>(
     change: &Alteration,
     errors: &mut E,
 ) -> u8
-    ensures files { SparesFiles (places_of (string_bytes file.now) None false)
+    ensures files { SparesFiles (result_places (string_bytes file.now) None false)
         (K.deeds desk.old) (K.deeds desk.new) }
-    ensures changes { ChangesFile D.Disk (string_bytes file.now) (kind_of change.now)
+    ensures changes { ChangesFile D.Disk (string_bytes file.now) (kind_of_alteration change.now)
         (λ state turns. planned_by change.now state ≡ Ok turns) (record {
           was = K.deeds desk.old;
           now = K.deeds desk.new;
@@ -50,9 +50,9 @@ fn alter_file<D: Disk, K: AllocGlobal + Desk<Disk = D>>(
     file: &String,
     change: &Alteration,
 ) -> Result<(), Unchanged>
-    ensures files { SparesFiles (places_of (string_bytes file.now) None false)
+    ensures files { SparesFiles (result_places (string_bytes file.now) None false)
         (K.deeds desk.old) (K.deeds desk.new) }
-    ensures alters { AltersFile D.Disk (string_bytes file.now) (kind_of change.now)
+    ensures alters { AltersFile D.Disk (string_bytes file.now) (kind_of_alteration change.now)
         (λ state turns. planned_by change.now state ≡ Ok turns) result (record {
           was = K.deeds desk.old;
           now = K.deeds desk.new;
@@ -77,12 +77,12 @@ fn alter_archive<D: Disk, K: AllocGlobal + Desk<Disk = D>>(
     archive: &mut Archive<D>,
     change: &Alteration,
 ) -> Result<(), Unchanged>
-    ensures files { SparesFiles (places_of (string_bytes file.now) None false)
+    ensures files { SparesFiles (result_places (string_bytes file.now) None false)
         (K.deeds desk.old) (K.deeds desk.new) }
     ensures alters { archive.old.closed ≡ false
         → (HonestAt D.honest archive.old.pages.disk
         → archive.old.contents.sets ≡ (state_of D.state archive.old).sets)
-        → Alters D.Disk (string_bytes file.now) (kind_of change.now)
+        → Alters D.Disk (string_bytes file.now) (kind_of_alteration change.now)
         (λ state turns. planned_by change.now state ≡ Ok turns) result (record {
           start = archive.old;
           finish = archive.new;
@@ -115,7 +115,7 @@ fn why_unchanged<D: Disk>(
 }
 
 fn kind_of(change: &Alteration) -> EntryKind
-    ensures { result ≡ kind_of change.now }
+    ensures { result ≡ kind_of_alteration change.now }
 {
     match change {
         Alteration::Delete(_) => EntryKind::Delete,

@@ -3,7 +3,7 @@ ghost use Rattle.std.specs.Prelude.{◌≡◌, List, map};
 ghost use Rattle.tune_store.specs.State.{State, IsState, empty_of};
 ghost use Rattle.tune_changes.specs.Aims.{turn_of};
 ghost use Rattle.tune_changes.specs.ChangedStates.{AreAlike};
-ghost use Rattle.tune_changes.specs.CommandRuns.{LeadsTo};
+ghost use Rattle.tune_changes.specs.CommandRuns.{LeadsAccepted};
 ghost use Rattle.tune_changes.specs.Undoing.{CanGoBack, StandsAfter, taken_back};
 ghost use Rattle.tune_changes.specs.declared.turns.Turn.{Turn};
 ghost use Rattle.tune_undo.specs.declared.old_entries.EntryKind.{EntryKind};
@@ -28,7 +28,7 @@ pub fn law_of_entries()
         → StandsAfter (map turn_of turns) old now
         → LeadsBack (entry_back kind turns now) now old }
     ensures loads { (state now : State) → IsState now → AreAlike now state
-        → LeadsTo now (loaded_back state now) (empty_of now.layout) }
+        → LeadsAccepted now (loaded_back state now) (empty_of now.layout) }
 {
     law_of_undo();
 }

@@ -7,7 +7,7 @@ ghost use Rattle.tune_store.specs.Limits.{longest_text};
 ghost use Rattle.tune_store.specs.declared.layout.Layout.TheVariants.{Two};
 ghost use Rattle.desk_scenes.specs.Printing.{ReadsAll};
 ghost use Rattle.desk_scenes.specs.Scenes.{IsQuiet};
-ghost use Rattle.desk_changes.specs.ReplacedTunes.{IsBookOf, ReadsBook, ReadsText};
+ghost use Rattle.desk_changes.specs.ReplacedTunes.{IsBookOf, ReadsOneBook, ReadsText};
 
 use abc_fields::{ByteText, TuneText, split_book};
 use desk_scenes::{desk_reason, read_input, say, say_refusal};
@@ -45,7 +45,7 @@ fn read_book<C: Console, E: Write, K: AllocGlobal + Desk>(
     errors: &mut E,
 ) -> Option<ByteText>
     ensures quiet { IsQuiet (K.deeds desk.old) (K.deeds desk.new) }
-    ensures book { IfSome result (λ book. ReadsBook (string_bytes path.now) book
+    ensures book { IfSome result (λ book. ReadsOneBook (string_bytes path.now) book
         (streams_in C.Console console.old console.new) (K.deeds desk.old) (K.deeds desk.new)) }
     ensures output { C.output console.new ≡ C.output console.old }
 {

@@ -3,8 +3,8 @@ ghost use Rattle.std.specs.Prelude.{◌≡◌, ◌≢◌, ◌++◌, None, Some, 
 ghost use Rattle.std.specs.Prelude.{string_bytes};
 ghost use Rattle.tune_asking.specs.AskingCalls.{Call};
 ghost use Rattle.tune_scripts.specs.Streams.{streams_in};
-ghost use Rattle.tune_desk.specs.Results.{SparesFiles, places_of};
-ghost use Rattle.desk_changes.specs.ReplacedTunes.{line_of, ReplacesText, ReplacesTune};
+ghost use Rattle.tune_desk.specs.Results.{SparesFiles, result_places};
+ghost use Rattle.desk_changes.specs.ReplacedTunes.{replaced_line, ReplacesText, ReplacesTune};
 ghost use Rattle.desk_changes.specs.Inside.Replacing.{told_turns, ReplacesIn, ReplacesInFile};
 
 use crate::one_tune_books::read_text;
@@ -38,7 +38,7 @@ pub fn replace<C: Console, E: Write, D: Disk, K: AllocGlobal + Desk<Disk = D>>(
     console: &mut C,
     errors: &mut E,
 ) -> u8
-    ensures files { SparesFiles (places_of (string_bytes file.now) None false)
+    ensures files { SparesFiles (result_places (string_bytes file.now) None false)
         (K.deeds desk.old) (K.deeds desk.new) }
     ensures replaces { ReplacesTune D.Disk (string_bytes file.now)
         (record { number = number; revision = revision; book = string_bytes book.now })
@@ -80,7 +80,7 @@ fn replace_by<C: Console, E: Write, D: Disk, K: AllocGlobal + Desk<Disk = D>>(
     console: &mut C,
     errors: &mut E,
 ) -> u8
-    ensures files { SparesFiles (places_of (string_bytes file.now) None false)
+    ensures files { SparesFiles (result_places (string_bytes file.now) None false)
         (K.deeds desk.old) (K.deeds desk.new) }
     ensures replaces { ReplacesText D.Disk (string_bytes file.now) what (record {
       streams = streams_in C.Console console.old console.new;
@@ -130,7 +130,7 @@ fn replace_in_file<D: Disk, K: AllocGlobal + Desk<Disk = D>>(
     file: &String,
     what: Replacement,
 ) -> Result<Vec<u8>, Unchanged>
-    ensures files { SparesFiles (places_of (string_bytes file.now) None false)
+    ensures files { SparesFiles (result_places (string_bytes file.now) None false)
         (K.deeds desk.old) (K.deeds desk.new) }
     ensures replaces { ReplacesInFile D.Disk (string_bytes file.now) what result (record {
       was = K.deeds desk.old;
@@ -154,7 +154,7 @@ fn replace_in_archive<D: Disk, K: AllocGlobal + Desk<Disk = D>>(
     archive: &mut Archive<D>,
     what: Replacement,
 ) -> Result<Vec<u8>, Unchanged>
-    ensures files { SparesFiles (places_of (string_bytes file.now) None false)
+    ensures files { SparesFiles (result_places (string_bytes file.now) None false)
         (K.deeds desk.old) (K.deeds desk.new) }
     ensures replaces { archive.old.closed ≡ false
         → ReplacesIn D.Disk (string_bytes file.now) what result (record {
@@ -213,7 +213,7 @@ fn told_turns<S: TuneStore>(
 
 // The line that tells of a tune which gets a text.
 fn line_of(alloc: Global, what: &Replacement, tune: &Tune) -> Result<Vec<u8>, AllocError>
-    ensures { IfOk result (λ line. line.items ≡ line_of what.now (Some tune.now)) }
+    ensures { IfOk result (λ line. line.items ≡ replaced_line what.now (Some tune.now)) }
 {
     if tune.text.bytes() == what.text.bytes() {
         return unchanged_line(alloc, what.number);

@@ -6,7 +6,7 @@ ghost use Rattle.tune_archive.specs.AsStore.{store_on};
 ghost use Rattle.tune_asking.specs.Asking.{IsOnlyAsked};
 ghost use Rattle.tune_changes.specs.Judging.{verdict_on};
 ghost use Rattle.tune_changes.specs.declared.judging.Verdict.TheVariants.{Before};
-ghost use Rattle.tune_desk.specs.Results.{SparesFiles, places_of};
+ghost use Rattle.tune_desk.specs.Results.{SparesFiles, result_places};
 ghost use Rattle.tune_scripts.specs.Streams.{streams_in};
 ghost use Rattle.tune_undo.specs.OldEntries.{step_value};
 ghost use Rattle.desk_scenes.specs.Scenes.{IsQuiet};
@@ -16,7 +16,8 @@ ghost use Rattle.desk_changes.specs.Inside.TriedUndoings.{FinishesEntry, TriesEn
 ghost use Rattle.desk_changes.specs.Inside.TriedUndoings.{TriesEntries, TriesChange, TriesTimes};
 ghost use Rattle.desk_changes.specs.Inside.TriedUndoings.{TriesByBook, TriesWithin, steps_of};
 ghost use Rattle.desk_changes.specs.OldChanges.{ReadsSteps, is_further};
-ghost use Rattle.desk_changes.specs.TakenBack.{AreUnchanged, Begins, IsUnchanged, KeepsGone, Stood};
+ghost use Rattle.desk_changes.specs.TakenBack.{AreUnchanged, BeginsUndoing, IsUnchanged, KeepsGone};
+ghost use Rattle.desk_changes.specs.TakenBack.{Stood};
 ghost use Rattle.desk_changes.specs.TakenBack.{IsBeginning, KeepsTextsOrNot, MarksOrNot};
 ghost use Rattle.desk_changes.specs.TakenBack.{RenumbersOne};
 ghost use Rattle.desk_changes.specs.Undone.{Undoes, UndoesFile};
@@ -48,7 +49,7 @@ pub fn undo<C: Console, E: Write, D: Disk, K: AllocGlobal + Desk<Disk = D>>(
     console: &mut C,
     errors: &mut E,
 ) -> u8
-    ensures files { SparesFiles (places_of (string_bytes file.now) None false)
+    ensures files { SparesFiles (result_places (string_bytes file.now) None false)
         (K.deeds desk.old) (K.deeds desk.new) }
     ensures undoes { Undoes D.Disk (string_bytes file.now) undoing.now (record {
       streams = streams_in C.Console console.old console.new;
@@ -71,7 +72,7 @@ fn undo_some<C: Console, E: Write, D: Disk, K: AllocGlobal + Desk<Disk = D>>(
     console: &mut C,
     errors: &mut E,
 ) -> u8
-    ensures files { SparesFiles (places_of (string_bytes file.now) None false)
+    ensures files { SparesFiles (result_places (string_bytes file.now) None false)
         (K.deeds desk.old) (K.deeds desk.new) }
     ensures undoes { UndoesFile D.Disk (string_bytes file.now) count (record {
       streams = streams_in C.Console console.old console.new;
@@ -95,7 +96,7 @@ fn undo_in_file<D: Disk, K: AllocGlobal + Desk<Disk = D>>(
     count: u32,
     told: &mut Vec<u8>,
 ) -> Result<(), NotUndone>
-    ensures files { SparesFiles (places_of (string_bytes file.now) None false)
+    ensures files { SparesFiles (result_places (string_bytes file.now) None false)
         (K.deeds desk.old) (K.deeds desk.new) }
     ensures undoes { TriesWithin D.Disk (string_bytes file.now) count result
         (K.deeds desk.old) (K.deeds desk.new) }
@@ -423,7 +424,7 @@ fn begin_undoing<D: Disk, K: AllocGlobal + Desk<Disk = D>>(
       was = K.deeds desk.old;
       now = K.deeds desk.new;
     }) }
-    ensures begins { IfOk result (λ _. Begins D.Disk (string_bytes file.now) change.now.begun
+    ensures begins { IfOk result (λ _. BeginsUndoing D.Disk (string_bytes file.now) change.now.begun
         (record {
           start = archive.old;
           finish = archive.new;

@@ -1,7 +1,7 @@
 // Turns, brought about behind their entry.
 ghost use Rattle.std.specs.Prelude.{None, false, string_bytes};
-ghost use Rattle.tune_desk.specs.Results.{SparesFiles, places_of};
-ghost use Rattle.desk_changes.specs.Inside.Turning.{Turns};
+ghost use Rattle.tune_desk.specs.Results.{SparesFiles, result_places};
+ghost use Rattle.desk_changes.specs.Inside.Turning.{TurnsBehindEntry};
 
 use crate::entries::entry_of;
 use crate::words::Unchanged;
@@ -21,9 +21,9 @@ pub(crate) fn carry<D: Disk, K: AllocGlobal + Desk<Disk = D>>(
     kind: EntryKind,
     turns: &[Turn],
 ) -> Result<(), Unchanged>
-    ensures files { SparesFiles (places_of (string_bytes file.now) None false)
+    ensures files { SparesFiles (result_places (string_bytes file.now) None false)
         (K.deeds desk.old) (K.deeds desk.new) }
-    ensures turns { Turns D.Disk (string_bytes file.now) kind turns.now result (record {
+    ensures turns { TurnsBehindEntry D.Disk (string_bytes file.now) kind turns.now result (record {
       start = archive.old;
       finish = archive.new;
       was = K.deeds desk.old;

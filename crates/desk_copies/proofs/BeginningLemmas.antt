@@ -4,7 +4,7 @@ use Rattle.std.proofs.lemmas.List.{append_assoc}
 use Rattle.std.specs.List.{AllByRecursion}
 use Rattle.tune_desk.specs.ArchiveFiles.{IsBegunArchive, IsBegunArchiveBy, Keeping, MakesArchiveBy, MakesIt, MakesNone, MakesNoneBy, NamesNone}
 use Rattle.tune_desk.specs.ArchiveFiles.{PutsArchiveAfter}
-use Rattle.tune_desk.specs.BegunResults.{NamesNew, Outcome, naming_of}
+use Rattle.tune_desk.specs.BegunResults.{NamesNew, PutOutcome, naming_of}
 use Rattle.tune_desk.specs.DeskDeeds.{DeskDeed, Answer, ChangesNothing, followed, created, closed, removed}
 use Rattle.tune_desk.specs.Results.{EachAfter, new_of}
 use Rattle.tune_desk.specs.declared.desk.DeskFault.{DeskFault}
@@ -85,7 +85,7 @@ created_at path other answer mid now same e = e ∙ ap (λ p. mid ++ created p a
 
 -- TARGET.new is closed, and named TARGET
 pub puts_archive : {D : Type 0} (keeping : Keeping) (file target path : List ℕ) (over : Bool) (disk : D) (was old mid now : List (DeskDeed D))
-    (outcome : Outcome)
+    (outcome : PutOutcome)
     → path ≡ new_of target → mid ≡ old ++ closed path disk ∷ [] → NamesNew target over outcome mid now
     → IsBegunArchiveBy keeping file target was old → over ≡ false
     → MatchResult outcome (λ _. MakesArchiveBy keeping file was now × PutsArchiveAfter keeping file disk was old now) (λ _. MakesNoneBy keeping file was now)
@@ -102,7 +102,7 @@ puts_archive {D} keeping file target path over disk was old mid now outcome same
     begun-closed : IsBegunArchiveBy keeping file target was mid
     begun-closed = archive_quiet file target was old begun mid (closed path disk) e refl
 
-    by : (out : Outcome) → MatchResult out (λ _. MakesArchiveBy keeping file was now × (now ≡ mid ++ naming_of target over (Ok tt) ∷ []))
+    by : (out : PutOutcome) → MatchResult out (λ _. MakesArchiveBy keeping file was now × (now ≡ mid ++ naming_of target over (Ok tt) ∷ []))
         (λ _. MakesNoneBy keeping file was now)
         → MatchResult out (λ _. MakesArchiveBy keeping file was now × PutsArchiveAfter keeping file disk was old now) (λ _. MakesNoneBy keeping file was now)
     by (Ok done) h = (

@@ -12,9 +12,9 @@ use Rattle.std.proofs.lemmas.Fmt.{decimal_by_steps}
 use Rattle.tune_disk.specs.declared.file.Access.TheVariants.{Change}
 use Rattle.tune_desk.specs.ArchiveFiles.{IsAside, IsBegunArchive, IsHeld, IsPutAside, Keeping, KeepsOpen, MakesArchive, MakesArchiveBy, MakesIt, MakesItBy}
 use Rattle.tune_desk.specs.ArchiveFiles.{MakesNone, MakesNoneBy, NamesNone}
-use Rattle.tune_desk.specs.BegunResults.{NamesNew, Outcome, naming_of}
+use Rattle.tune_desk.specs.BegunResults.{NamesNew, PutOutcome, naming_of}
 use Rattle.tune_desk.specs.DeskDeeds.{DeskDeed, Answer, ChangesNothing, followed, opened, closed, linked, shared}
-use Rattle.tune_desk.specs.Results.{EachAfter, Leaves, new_of}
+use Rattle.tune_desk.specs.Results.{EachAfter, LeavesFile, new_of}
 use Rattle.tune_desk.specs.declared.desk.DeskFault.{DeskFault}
 use Rattle.tune_desk.proofs.ArchiveLemmas.{finished_archive, makes_after, makes_both, makes_one_more, makes_quiet, quiet_by, quiet_makes, quiet_unnamed}
 use Rattle.tune_desk.proofs.BegunLemmas.{own_more, quiet_leaves}
@@ -71,7 +71,7 @@ is_aside target number lt = (
 module _ {D : Type 0} (file target : List ℕ) (was mid now : List (DeskDeed D)) where
   -- one deed more, of which all is known
   abbrev pub begun_more : (deed : DeskDeed D) (h : IsBegunArchive file target was mid) → now ≡ mid ++ deed ∷ [] → MakesIt file h.since deed → NamesNone deed
-      → Leaves (new_of target) deed → IsBegunArchive file target was now
+      → LeavesFile (new_of target) deed → IsBegunArchive file target was now
   begun_more deed h e fits none leaves = record {
     since = h.since ++ deed ∷ [];
     history = e ∙ ap (λ l. l ++ deed ∷ []) h.history ∙ append_assoc was h.since (deed ∷ []);
@@ -149,13 +149,13 @@ module _ {D : Type 0} (file target : List ℕ) (was mid now : List (DeskDeed D))
       is_aside = h.aside.is_aside;
       history = ap (λ l. l ++ closed (new_of target) disk ∷ []) h.aside.history
           ∙ append_assoc h.aside.earlier (linked target h.aside.aside (Ok tt) ∷ h.aside.since) (closed (new_of target) disk ∷ []);
-      left = All-append (λ deed. Leaves target deed × Leaves h.aside.aside deed) h.aside.since (closed (new_of target) disk ∷ []) h.aside.left
+      left = All-append (λ deed. LeavesFile target deed × LeavesFile h.aside.aside deed) h.aside.since (closed (new_of target) disk ∷ []) h.aside.left
           ((quiet_leaves target (closed (new_of target) disk) refl, quiet_leaves h.aside.aside (closed (new_of target) disk) refl), tt);
     },
   )
 
 -- and named over what stands there
-pub puts_over : {D : Type 0} (file target path : List ℕ) (over : Bool) (number : ℕ) (disk : D) (was old mid now : List (DeskDeed D)) (outcome : Outcome)
+pub puts_over : {D : Type 0} (file target path : List ℕ) (over : Bool) (number : ℕ) (disk : D) (was old mid now : List (DeskDeed D)) (outcome : PutOutcome)
     → path ≡ new_of target → over ≡ true → HasPutAside file target number was old → mid ≡ old ++ closed path disk ∷ []
     → NamesNew target over outcome mid now → Ends file disk outcome was now
 puts_over {D} file target path over number disk was old mid now outcome same is h closes named_as =
@@ -164,7 +164,7 @@ puts_over {D} file target path over number disk was old mid now outcome same is 
     let ready = aside_closed file target was old mid number disk h e in
     by e outcome (finished_archive file target true was mid now outcome ready.0 (λ _. (ready.1, ready.2)) names)
   where
-    by : mid ≡ old ++ closed (new_of target) disk ∷ [] → (out : Outcome)
+    by : mid ≡ old ++ closed (new_of target) disk ∷ [] → (out : PutOutcome)
         → MatchResult out (λ _. MakesArchive file was now × (now ≡ mid ++ naming_of target true (Ok tt) ∷ [])) (λ _. MakesNone file was now)
         → Ends file disk out was now
     by e (Ok done) r = (

@@ -28,5 +28,5 @@ set_list_bytes Json rows = array_bytes (set_objects rows)
 set_list_bytes Csv rows = set_table rows
 
 -- one number
-abbrev pub count_bytes : ℕ → List ℕ
-count_bytes count = decimal count ++ codes "\n"
+abbrev pub count_line : ℕ → List ℕ
+count_line count = decimal count ++ codes "\n"

@@ -1,6 +1,6 @@
 // Lists of tunes and of set lists.
 ghost use Rattle.std.specs.Prelude.{◌≡◌, IfOk};
-ghost use Rattle.desk_lists.specs.ListForms.{count_bytes, place_list_bytes, set_list_bytes};
+ghost use Rattle.desk_lists.specs.ListForms.{count_line, place_list_bytes, set_list_bytes};
 ghost use Rattle.desk_lists.specs.ListForms.{tune_list_bytes};
 
 use crate::json_lists::{places_in_json, sets_in_json, tunes_in_json};
@@ -52,7 +52,7 @@ pub fn set_list(alloc: Global, rows: &[SetRow], form: Form) -> Result<ByteText, 
 
 /// A line of one number. Its only error is out of memory.
 pub fn count_line(alloc: Global, count: u64) -> Result<ByteText, AllocError>
-    ensures { IfOk result (λ line. line ≡ count_bytes count) }
+    ensures { IfOk result (λ line. line ≡ count_line count) }
 {
     let mut line = Vec::new(alloc);
     put_number(&mut line, count)?;

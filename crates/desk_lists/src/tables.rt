@@ -2,7 +2,7 @@
 ghost use Rattle.std.specs.Prelude.{◌≡◌, ◌++◌, ◌∷◌, [], IfOk, OnOk, decimal, map};
 ghost use Rattle.desk_lists.specs.CsvTables.{place_table, record_bytes, set_fields, set_table};
 ghost use Rattle.desk_lists.specs.CsvTables.{title_field, tune_fields, tune_table};
-ghost use Rattle.desk_lists.specs.Inside.OpenTables.{IsOpen, table_bytes};
+ghost use Rattle.desk_lists.specs.Inside.OpenTables.{IsOpenTable, table_bytes};
 
 use abc_fields::ByteText;
 use csv::{Writer, WriterBuilder};
@@ -53,7 +53,7 @@ pub(crate) fn set_table(alloc: Global, rows: &[SetRow]) -> Result<Vec<u8>, Alloc
 
 // A table with no record.
 pub(crate) fn open(alloc: Global) -> Writer<Vec<u8>>
-    ensures is_open { IsOpen result }
+    ensures is_open { IsOpenTable result }
     ensures bytes { table_bytes result ≡ [] }
 {
     WriterBuilder::new().from_writer(Vec::new(alloc))
@@ -61,8 +61,8 @@ pub(crate) fn open(alloc: Global) -> Writer<Vec<u8>>
 
 // Puts a record behind a table.
 pub(crate) fn put_record(table: &mut Writer<Vec<u8>>, fields: &[&[u8]]) -> Result<(), AllocError>
-    requires { IsOpen table.old }
-    ensures is_open { OnOk result (IsOpen table.new) }
+    requires { IsOpenTable table.old }
+    ensures is_open { OnOk result (IsOpenTable table.new) }
     ensures bytes { OnOk result (table_bytes table.new
         ≡ table_bytes table.old ++ record_bytes (map (λ field. field.now) fields.now)) }
 {
@@ -83,8 +83,8 @@ pub(crate) fn close(table: Writer<Vec<u8>>) -> Result<Vec<u8>, AllocError>
 }
 
 fn put_tune(table: &mut Writer<Vec<u8>>, row: &IndexRow) -> Result<(), AllocError>
-    requires { IsOpen table.old }
-    ensures is_open { OnOk result (IsOpen table.new) }
+    requires { IsOpenTable table.old }
+    ensures is_open { OnOk result (IsOpenTable table.new) }
     ensures bytes { OnOk result (table_bytes table.new
         ≡ table_bytes table.old ++ record_bytes (tune_fields row.now)) }
 {
@@ -99,8 +99,8 @@ fn put_tune(table: &mut Writer<Vec<u8>>, row: &IndexRow) -> Result<(), AllocErro
 }
 
 fn put_place(table: &mut Writer<Vec<u8>>, place: u64, row: &IndexRow) -> Result<(), AllocError>
-    requires { IsOpen table.old }
-    ensures is_open { OnOk result (IsOpen table.new) }
+    requires { IsOpenTable table.old }
+    ensures is_open { OnOk result (IsOpenTable table.new) }
     ensures bytes { OnOk result (table_bytes table.new
         ≡ table_bytes table.old ++ record_bytes (decimal place ∷ tune_fields row.now)) }
 {
@@ -117,8 +117,8 @@ fn put_place(table: &mut Writer<Vec<u8>>, place: u64, row: &IndexRow) -> Result<
 }
 
 fn put_set(table: &mut Writer<Vec<u8>>, row: &SetRow) -> Result<(), AllocError>
-    requires { IsOpen table.old }
-    ensures is_open { OnOk result (IsOpen table.new) }
+    requires { IsOpenTable table.old }
+    ensures is_open { OnOk result (IsOpenTable table.new) }
     ensures bytes { OnOk result (table_bytes table.new
         ≡ table_bytes table.old ++ record_bytes (set_fields row.now)) }
 {

@@ -2,7 +2,7 @@
 ghost use Rattle.std.specs.Prelude.{◌≡◌, ◌++◌, IfOk, OnOk};
 ghost use Rattle.desk_lists.specs.JsonLists.{array_bytes};
 ghost use Rattle.desk_lists.specs.CsvTables.{record_bytes};
-ghost use Rattle.desk_lists.specs.Inside.OpenTables.{IsOpen, table_bytes};
+ghost use Rattle.desk_lists.specs.Inside.OpenTables.{IsOpenTable, table_bytes};
 ghost use Rattle.desk_lists.specs.Twins.{alike_bytes, pair_members, twin_fields, twin_list_bytes};
 ghost use Rattle.desk_lists.specs.Twins.{twin_object, twin_objects, twin_row_bytes};
 ghost use Rattle.desk_lists.specs.Twins.{twin_rows_bytes, twin_table};
@@ -135,8 +135,8 @@ fn twin_table(alloc: Global, rows: &[TwinRow]) -> Result<Vec<u8>, AllocError>
 }
 
 fn put_fields(table: &mut Writer<Vec<u8>>, row: &TwinRow) -> Result<(), AllocError>
-    requires { IsOpen table.old }
-    ensures is_open { OnOk result (IsOpen table.new) }
+    requires { IsOpenTable table.old }
+    ensures is_open { OnOk result (IsOpenTable table.new) }
     ensures bytes { OnOk result (table_bytes table.new
         ≡ table_bytes table.old ++ record_bytes (twin_fields row.now)) }
 {

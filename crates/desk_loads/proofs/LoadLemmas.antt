@@ -12,11 +12,11 @@ use Rattle.tune_undo.specs.declared.old_entries.Part.{Part}
 use Rattle.tune_desk.specs.ArchiveFiles.{KeepsEntry, IsBegunArchiveBy, MakesNoneBy}
 use Rattle.tune_desk.specs.DeskDeeds.{DeskDeed, ChangesNothing, grown, read}
 use Rattle.tune_desk.specs.OldTexts.{Grows, GrowsNot}
-use Rattle.tune_desk.specs.Results.{Places, SparesFiles, old_of, places_of}
+use Rattle.tune_desk.specs.Results.{Places, SparesFiles, old_of, result_places}
 use Rattle.tune_desk.specs.declared.desk.DeskFault.{DeskFault}
 use Rattle.tune_desk.proofs.EntryLemmas.{archive_kept}
 use Rattle.tune_desk.proofs.SpareLemmas.{quiet_all, spares_both, spares_reading}
-use Rattle.desk_scenes.specs.Printing.{PrintsOrNot, WritesNothing, WritesOut}
+use Rattle.desk_scenes.specs.Printing.{PrintsOrNot, WritesNothing, WritesOrFails}
 use Rattle.desk_scenes.specs.Scenes.{IsQuiet}
 use Rattle.desk_scenes.proofs.QuietLemmas.{all_both}
 use Rattle.desk_copies.proofs.RestoreLemmas.{makes_before, none_before}
@@ -51,8 +51,8 @@ grows_not_asked file was now quiet = record {
 
 -- and then an entry was kept, or not
 module _ {D : Type 0} (file : List ℕ) (was mid now : List (DeskDeed D)) (quiet : IsQuiet was mid) where
-  pub spares_later : SparesFiles (places_of file None false) mid now → SparesFiles (places_of file None false) was now
-  spares_later spares = let places = places_of file None false in spares_both places was mid now (spares_asked places was mid quiet) spares
+  pub spares_later : SparesFiles (result_places file None false) mid now → SparesFiles (result_places file None false) was now
+  spares_later spares = let places = result_places file None false in spares_both places was mid now (spares_asked places was mid quiet) spares
 
   pub grows_later : (bytes : List ℕ) → Grows file bytes mid now → Grows file bytes was now
   grows_later bytes h = let deed = grown (old_of file) h.piece (Ok tt) in record {
@@ -76,7 +76,7 @@ module _ {D : Type 0} (file : List ℕ) (was mid now : List (DeskDeed D)) (quiet
 
 -- an archive that is begun is so still once its entry is kept
 pub begun_kept : {D : Type 0} (file target : List ℕ) (parts : List Part) (was mid now : List (DeskDeed D)) → IsBegunArchiveBy KeepsEntry file target was mid
-    → SparesFiles (places_of file None false) mid now → KeepsLoad file parts mid now → IsBegunArchiveBy KeepsEntry file target was now
+    → SparesFiles (result_places file None false) mid now → KeepsLoad file parts mid now → IsBegunArchiveBy KeepsEntry file target was now
 begun_kept file target [] was mid now begun spares same = subst (IsBegunArchiveBy KeepsEntry file target was) (sym same) begun
 begun_kept file target (part ∷ parts) was mid now begun spares grows =
     archive_kept file target was mid now begun (entry_bytes (entry_of_load (part ∷ parts))) spares grows
@@ -109,7 +109,7 @@ input_still i j o p line status (inl prints) = prints.0
 input_still i j o p line status (inr (silent, fails)) = silent.0
 
 abbrev TellsLine : Streams → List ℕ → ℕ → Type 0
-TellsLine streams line status = WritesOut streams line status ⊎ (WritesNothing streams × (status ≢ 0))
+TellsLine streams line status = WritesOrFails streams line status ⊎ (WritesNothing streams × (status ≢ 0))
 
 told_line : (i j h : InputTold) (o p : OutputTold) (line : List ℕ) (status : ℕ) → PrintsOrNot (streams_by i j o p) line status
     → TellsLine (streams_by h j o p) line status

@@ -11,7 +11,7 @@ use Rattle.tune_store.specs.declared.layout.Layout.TheVariants.{One, Two}
 use Rattle.tune_format.specs.States.{Holds}
 use Rattle.tune_archive.specs.Shelf.{Shelf, state_of}
 use Rattle.tune_desk.specs.DeskDeeds.{DeskDeed, opened, closed}
-use Rattle.tune_desk.specs.Results.{SparesFiles, places_of}
+use Rattle.tune_desk.specs.Results.{SparesFiles, result_places}
 use Rattle.desk_scenes.specs.OpenedFile.{Opens}
 use Rattle.desk_scenes.specs.FileAnswers.{Did}
 use Rattle.desk_scenes.specs.Visits.{Visits, visit}
@@ -45,8 +45,8 @@ module _ {D : Type 0} (disks : disk.Ghosts D) (file : List ℕ) (start finish : 
     does = does;
   }
 
-  pub visit_spares : Opens disks file Change start was mid → now ≡ mid ++ closed file new ∷ [] → SparesFiles (places_of file None false) was now
-  visit_spares h e = spares_since disks (places_of file None false) was now (visit file Change h.old new) (visited h e) (refl, (refl, tt))
+  pub visit_spares : Opens disks file Change start was mid → now ≡ mid ++ closed file new ∷ [] → SparesFiles (result_places file None false) was now
+  visit_spares h e = spares_since disks (result_places file None false) was now (visit file Change h.old new) (visited h e) (refl, (refl, tt))
 
 -- FILE was not opened, or it refused
 pub not_upgraded : {D : Type 0} (disks : disk.Ghosts D) (file : List ℕ) (why : Unanswered) (was now : List (DeskDeed D))

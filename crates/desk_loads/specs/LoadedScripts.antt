@@ -22,7 +22,7 @@ use Rattle.tune_desk.specs.ArchiveFiles.{PutsArchiveBy}
 use Rattle.tune_desk.specs.DeskDeeds.{DeskDeed, read}
 use Rattle.tune_desk.specs.OldTexts.{Grows}
 use Rattle.desk_scenes.specs.OpenedFile.{CountsOf}
-use Rattle.desk_scenes.specs.Printing.{ReadsAll, WritesNothing, WritesOut}
+use Rattle.desk_scenes.specs.Printing.{ReadsAll, WritesNothing, WritesOrFails}
 use Rattle.desk_scenes.specs.Scenes.{Scene}
 
 -- WHAT A SCRIPT MEANS
@@ -102,7 +102,8 @@ pub record LoadsScript {D : Type 0} (disks : disk.Ghosts D) (file path : List �
   pub makes : MakesArchiveBy KeepsEntry file scene.was scene.now
   pub reads : ReadsScript path script scene.streams scene.was mid
   pub puts : PutsScript disks file script counts mid scene.now
-  pub prints : WritesOut scene.streams (line_of counts.layout counts.tunes counts.sets) scene.status
+  pub prints : WritesOrFails scene.streams
+      (line_of counts.layout counts.tunes counts.sets) scene.status
       ⊎ (WritesNothing scene.streams × (scene.status ≢ 0))
 
 -- THE THEOREM OF A LOAD: this was done; or no archive was put where FILE leads, and the status says

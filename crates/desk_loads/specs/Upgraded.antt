@@ -23,12 +23,12 @@ use Rattle.desk_scenes.specs.Visits.{Visits, visit}
 
 -- THE ARCHIVE
 -- It was looked at, and is as it was.
-abbrev pub Stays : {D : Type 0} → Shelf D → Shelf D → Type 0
-Stays start finish = finish ≡ start
+abbrev pub StaysLookedAt : {D : Type 0} → Shelf D → Shelf D → Type 0
+StaysLookedAt start finish = finish ≡ start
 
 -- It was of layout 2 already.
 abbrev pub WasOfTwo : {D : Type 0} → disk.Ghosts D → Shelf D → Shelf D → Type 0
-WasOfTwo disks start finish = Stays start finish
+WasOfTwo disks start finish = StaysLookedAt start finish
     × (HonestAt disks.honest start.pages.disk → (state_of disks.state start).layout ≡ Two)
 
 -- The one command `Upgrade` was carried out on it, with this answer; meanwhile a stop leaves the

@@ -3,7 +3,7 @@ ghost use Rattle.std.specs.Prelude.{◌≡◌, ◌≢◌, true, None, false, str
 ghost use Rattle.tune_pages.specs.Kept.{HonestAt};
 ghost use Rattle.tune_store.specs.declared.layout.Layout.TheVariants.{Two};
 ghost use Rattle.tune_archive.specs.Shelf.{state_of};
-ghost use Rattle.tune_desk.specs.Results.{SparesFiles, places_of};
+ghost use Rattle.tune_desk.specs.Results.{SparesFiles, result_places};
 ghost use Rattle.tune_scripts.specs.Streams.{streams_in};
 ghost use Rattle.desk_loads.specs.Inside.LayoutChanges.{UpgradesBy, UpgradesFile};
 ghost use Rattle.desk_loads.specs.Upgraded.{AnswersUpgrade, Upgrades};
@@ -34,7 +34,7 @@ pub fn upgrade<C: Console, E: Write, D: Disk, K: AllocGlobal + Desk<Disk = D>>(
     console: &mut C,
     errors: &mut E,
 ) -> u8
-    ensures files { SparesFiles (places_of (string_bytes file.now) None false)
+    ensures files { SparesFiles (result_places (string_bytes file.now) None false)
         (K.deeds desk.old) (K.deeds desk.new) }
     ensures upgrades { Upgrades D.Disk (string_bytes file.now) (record {
       streams = streams_in C.Console console.old console.new;
@@ -59,7 +59,7 @@ fn upgrade_file<E: Write, D: Disk, K: AllocGlobal + Desk<Disk = D>>(
     file: &String,
     errors: &mut E,
 ) -> Result<LayoutTwo, Unanswered>
-    ensures files { SparesFiles (places_of (string_bytes file.now) None false)
+    ensures files { SparesFiles (result_places (string_bytes file.now) None false)
         (K.deeds desk.old) (K.deeds desk.new) }
     ensures upgrades { UpgradesFile D.Disk (string_bytes file.now) result
         (K.deeds desk.old) (K.deeds desk.new) }

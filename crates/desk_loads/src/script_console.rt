@@ -80,11 +80,11 @@ impl<'a> ScriptConsole<'a> {
 }
 
 impl<'a> Console for ScriptConsole<'a> {
-    ghost use Rattle.desk_loads.specs.Inside.ScriptConsoles.{input_told, output_told};
+    ghost use Rattle.desk_loads.specs.Inside.ScriptConsoles.{script_input_told, replies_told};
 
-    ghost input = { input_told };
+    ghost input = { script_input_told };
 
-    ghost output = { λ console. output_told console.replies };
+    ghost output = { λ console. replies_told console.replies };
 
     fn read_piece(&mut self, room: &mut [u8]) -> PieceRead {
         self.looks = self.looks.and(&self.rest, &self.replies);

@@ -4,7 +4,7 @@ ghost use Rattle.std.specs.Prelude.{string_bytes};
 ghost use Rattle.tune_desk.specs.ArchiveFiles.{IsBegunArchive, KeepsEntry, MakesNoneBy};
 ghost use Rattle.tune_desk.specs.DeskDeeds.{DeskDeed};
 ghost use Rattle.tune_desk.specs.OldTexts.{GrowsNot};
-ghost use Rattle.tune_desk.specs.Results.{SparesFiles, new_of, places_of};
+ghost use Rattle.tune_desk.specs.Results.{SparesFiles, new_of, result_places};
 ghost use Rattle.tune_scripts.specs.Streams.{streams_in};
 ghost use Rattle.desk_scenes.specs.Scenes.{IsQuiet};
 ghost use Rattle.desk_loads.specs.LoadedScripts.{HoldsScript, KeepsLoad, Loads, PutsScript};
@@ -171,7 +171,7 @@ fn keep_load<K: AllocGlobal + Desk>(
     target: &String,
     parts: Vec<Part>,
 ) -> Result<(), Unloaded>
-    ensures files { SparesFiles (places_of (string_bytes file.now) None false)
+    ensures files { SparesFiles (result_places (string_bytes file.now) None false)
         (K.deeds desk.old) (K.deeds desk.new) }
     ensures kept { IfOk result (λ _. KeepsLoad (string_bytes file.now) parts.items
         (K.deeds desk.old) (K.deeds desk.new)) }

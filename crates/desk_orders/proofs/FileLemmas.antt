@@ -7,25 +7,25 @@ use Rattle.tune_disk.specs.declared.file.Access.{Access}
 use Rattle.tune_disk.specs.declared.file.Access.TheVariants.{Read, Change}
 use Rattle.tune_store.specs.State.{State}
 use Rattle.tune_desk.specs.DeskDeeds.{DeskDeed, ChangesNothing}
-use Rattle.tune_desk.specs.Results.{Places, SparesFiles, IsReading, places_of}
+use Rattle.tune_desk.specs.Results.{Places, SparesFiles, IsReading, result_places}
 use Rattle.tune_desk.proofs.SpareLemmas.{spares_none, spares_reading, spares_both, quiet_all}
 use Rattle.desk_words.specs.declared.asked.Order.{Order}
 use Rattle.desk_words.specs.declared.asked.Order.TheVariants as order
 use Rattle.desk_words.specs.declared.asked.Target.{Target}
 use Rattle.desk_scenes.specs.FileAnswers.{Did, IsVisited, IsAsked, IsUnasked}
 use Rattle.desk_scenes.specs.Scenes.{Scene, IsQuiet}
-use Rattle.desk_orders.specs.Orders.{CarriesOut, Tells, WritesAnswer, DeliversRead, Drafts, WritesDraft, PlacesInput, RunsOnce, RunsOnFile}
+use Rattle.desk_orders.specs.Orders.{CarriesOut, TellsAnswer, WritesAnswer, DeliversRead, Drafts, WritesDraft, PlacesInput, RunsOnce, RunsOnFile}
 use Rattle.tune_desk.specs.ArchiveFiles.{Keeping, KeepsEntry, MakesArchive, MakesArchiveBy, MakesNoneBy}
 use Rattle.desk_copies.specs.Made.{MakesEmpty}
 use Rattle.desk_loads.specs.LoadedScripts.{Loads}
 use Rattle.desk_copies.specs.Restored.{Restores}
-use Rattle.desk_orders.specs.Orders.{IsRefused, KeepsFiles, files_of, places_to}
+use Rattle.desk_orders.specs.Orders.{IsUntold, KeepsFiles, files_of, places_to}
 use Rattle.desk_scenes.specs.Visits.{Visits, Mends, Comes, ComesToNothing, visit, failed_visit, spared, failed}
 use Rattle.desk_scenes.proofs.FileLemmas.{asked_spares, unasked_spares, spares_since, quiet_spares}
 
 module _ {D : Type 0} (disks : disk.Ghosts D) (places : Places) where
   -- ORDERS
-  tells_spares : (Told : State → List ℕ → Type 0) (scene : Scene D) → Tells disks places.file Told scene → SparesFiles places scene.was scene.now
+  tells_spares : (Told : State → List ℕ → Type 0) (scene : Scene D) → TellsAnswer disks places.file Told scene → SparesFiles places scene.was scene.now
   tells_spares Told scene (inl (bytes, did, prints)) = asked_spares disks places (λ state. Told state bytes) scene.was scene.now did
   tells_spares Told scene (inr refused) = unasked_spares disks places scene.was scene.now refused.0
 
@@ -54,19 +54,19 @@ writes_spares disks file Told target scene (inl (bytes, mid, did, delivers)) =
 writes_spares disks file Told target scene (inr refused) = unasked_spares disks (places_to file target) scene.was scene.now refused.0
 
 drafted : {D : Type 0} (file : List ℕ) (out : List ℕ) (tune : _) (scene : Scene D) → WritesDraft file tune out scene
-    → SparesFiles (places_of file (Some out) false) scene.was scene.now
+    → SparesFiles (result_places file (Some out) false) scene.was scene.now
 drafted file out tune scene (inl written) = written.result.spares
 drafted file out tune scene (inr (same, silent, status)) =
-    subst (SparesFiles (places_of file (Some out) false) scene.was) (sym same) (spares_none (places_of file (Some out) false) scene.was)
+    subst (SparesFiles (result_places file (Some out) false) scene.was) (sym same) (spares_none (result_places file (Some out) false) scene.was)
 
 pub drafts_spares : {D : Type 0} (disks : disk.Ghosts D) (file : List ℕ) (number : ℕ) (out : List ℕ) (scene : Scene D)
-    → Drafts disks file number out scene → SparesFiles (places_of file (Some out) false) scene.was scene.now
+    → Drafts disks file number out scene → SparesFiles (result_places file (Some out) false) scene.was scene.now
 drafts_spares disks file number out scene (inl (tune, mid, did, writes)) =
-    let places = places_of file (Some out) false in
+    let places = result_places file (Some out) false in
     spares_both places scene.was mid scene.now (asked_spares disks places _ scene.was mid did)
     (drafted file out tune (record scene { was = mid }) writes)
 drafts_spares disks file number out scene (inr refused) =
-    unasked_spares disks (places_of file (Some out) false) scene.was scene.now refused.0
+    unasked_spares disks (result_places file (Some out) false) scene.was scene.now refused.0
 
 pub places_spares : {D : Type 0} (file : List ℕ) (target : Target) (scene : Scene D) → PlacesInput file target scene
     → SparesFiles (places_to file target) scene.was scene.now
@@ -84,13 +84,13 @@ pub carried_by : {D : Type 0} (disks : disk.Ghosts D) (file : List ℕ) (asked b
     → CarriesOut disks file by scene → CarriesOut disks file asked scene
 carried_by disks file asked by scene e h = subst (λ o. CarriesOut disks file o scene) (sym e) h
 
-pub told_keeps : {D : Type 0} (disks : disk.Ghosts D) (file : List ℕ) (Told : State → List ℕ → Type 0) (scene : Scene D) → Tells disks file Told scene
-    → SparesFiles (places_of file None false) scene.was scene.now
-told_keeps disks file Told scene h = tells_spares disks (places_of file None false) Told scene h
+pub told_keeps : {D : Type 0} (disks : disk.Ghosts D) (file : List ℕ) (Told : State → List ℕ → Type 0) (scene : Scene D) → TellsAnswer disks file Told scene
+    → SparesFiles (result_places file None false) scene.was scene.now
+told_keeps disks file Told scene h = tells_spares disks (result_places file None false) Told scene h
 
 pub asked_keeps : {D : Type 0} (disks : disk.Ghosts D) (file : List ℕ) (scene : Scene D) → RunsOnFile disks file scene
-    → SparesFiles (places_of file None false) scene.was scene.now
-asked_keeps disks file scene h = runs_spares disks (places_of file None false) scene h
+    → SparesFiles (result_places file None false) scene.was scene.now
+asked_keeps disks file scene h = runs_spares disks (result_places file None false) scene h
 
 -- an archive was put where FILE leads, or none
 pub none_keeps : {D : Type 0} {keeping : Keeping} (file : List ℕ) (was now : List (DeskDeed D)) → MakesNoneBy keeping file was now
@@ -113,5 +113,5 @@ loaded_keeps disks file path scene (inl loaded) = loaded.makes
 loaded_keeps disks file path scene (inr none) = none_keeps file scene.was scene.now none.0
 
 -- nothing was done
-pub left_keeps : {D : Type 0} (file : List ℕ) (was : List (DeskDeed D)) → SparesFiles (places_of file None false) was was
-left_keeps file was = spares_none (places_of file None false) was
+pub left_keeps : {D : Type 0} (file : List ℕ) (was : List (DeskDeed D)) → SparesFiles (result_places file None false) was was
+left_keeps file was = spares_none (result_places file None false) was

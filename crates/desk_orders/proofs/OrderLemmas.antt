@@ -11,7 +11,7 @@ use Rattle.tune_desk.specs.DeskDeeds.{DeskDeed, ChangesNothing}
 use Rattle.desk_scenes.specs.FileAnswers.{Did, IsAsked}
 use Rattle.desk_scenes.specs.OpenedFile.{CountsOf}
 use Rattle.desk_scenes.specs.Scenes.{Scene}
-use Rattle.desk_orders.specs.Orders.{Tells}
+use Rattle.desk_orders.specs.Orders.{TellsAnswer}
 use Rattle.desk_scenes.specs.Printing.{PrintsOrNot}
 
 -- COUNTS
@@ -21,7 +21,7 @@ counts_are counts state h = rw (h.layout, h.tunes, h.sets) refl
 pub checks : {D : Type 0} (disks : disk.Ghosts D) (file : List ℕ) (counts : Counts) (scene : Scene D)
     → Did scene.was scene.now (IsAsked disks file (CountsOf counts))
     → PrintsOrNot scene.streams (line_of counts.layout counts.tunes counts.sets) scene.status
-    → Tells disks file (λ state bytes. bytes ≡ counts_bytes state) scene
+    → TellsAnswer disks file (λ state bytes. bytes ≡ counts_bytes state) scene
 checks disks file counts scene asked (inl prints) = inl (
   line_of counts.layout counts.tunes counts.sets,
   (

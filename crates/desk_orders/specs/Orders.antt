@@ -15,7 +15,7 @@ use Rattle.tune_cli.specs.ProgramLines.{counts_bytes}
 use Rattle.tune_cli.specs.declared.file_actions.Done.{Done}
 use Rattle.tune_desk.specs.DeskDeeds.{DeskDeed, opened, closed, ChangesNothing}
 use Rattle.tune_desk.specs.ArchiveFiles.{KeepsEntry, MakesArchive, MakesArchiveBy}
-use Rattle.tune_desk.specs.Results.{Places, places_of, SparesFiles, Writes}
+use Rattle.tune_desk.specs.Results.{Places, result_places, SparesFiles, WritesTarget}
 use Rattle.tune_desk.specs.Refusals.{Refuses}
 use Rattle.tune_desk.specs.declared.desk.DeskFault.{DeskFault}
 use Rattle.tune_desk.specs.declared.refusals.ResultFault.{ResultFault}
@@ -23,7 +23,7 @@ use Rattle.desk_questions.specs.Told.{told}
 use Rattle.desk_terms.specs.declared.alteration.Alteration.{Alteration}
 use Rattle.tune_changes.specs.Planning.{planned_by}
 use Rattle.desk_changes.specs.ChangedFiles.{ChangesFile}
-use Rattle.desk_changes.specs.Kinds.{kind_of}
+use Rattle.desk_changes.specs.Kinds.{kind_of_alteration}
 use Rattle.desk_backups.specs.BackupFiles.{SparesCopies}
 use Rattle.desk_backups.specs.Backups.{Backs}
 use Rattle.desk_backups.specs.CheckedCopies.{TellsCopy}
@@ -40,7 +40,7 @@ use Rattle.desk_books.specs.AddedBooks.{Adds}
 use Rattle.desk_books.specs.CheckedBooks.{TellsPaths}
 use Rattle.desk_books.specs.Stages.{Stage}
 use Rattle.desk_scenes.specs.FileAnswers.{Did, IsAsked, IsUnasked}
-use Rattle.desk_scenes.specs.Printing.{WritesOut, Prints, WritesNothing, IsSilent, ReadsAll}
+use Rattle.desk_scenes.specs.Printing.{WritesOrFails, Prints, WritesNothing, IsSilent, ReadsAll}
 use Rattle.desk_orders.specs.ScriptVisits.{AsksScript}
 use Rattle.desk_scenes.specs.Scenes.{Scene, IsQuiet, WritesResult}
 use Rattle.desk_scenes.specs.Visits.{visit, failed_visit}
@@ -62,17 +62,17 @@ stage_after scene = record {
 
 -- QUESTIONS
 -- FILE was not asked, or it refused to tell: nothing was printed, and the status says so.
-abbrev pub IsRefused : {D : Type 0} → disk.Ghosts D → List ℕ → Scene D → Type 0
-IsRefused disks file scene = Did scene.was scene.now (IsUnasked disks file)
+abbrev pub IsUntold : {D : Type 0} → disk.Ghosts D → List ℕ → Scene D → Type 0
+IsUntold disks file scene = Did scene.was scene.now (IsUnasked disks file)
     × IsSilent scene.streams × (scene.status ≢ 0)
 
 -- FILE was asked, and what it told was printed; or not.
-abbrev pub Tells : {D : Type 0} → disk.Ghosts D → List ℕ → (State → List ℕ → Type 0) → Scene D
+abbrev pub TellsAnswer : {D : Type 0} → disk.Ghosts D → List ℕ → (State → List ℕ → Type 0) → Scene D
     → Type 0
-Tells disks file Told scene = ((bytes : List ℕ)
+TellsAnswer disks file Told scene = ((bytes : List ℕ)
     × Did scene.was scene.now (IsAsked disks file (λ state. Told state bytes))
     × Prints scene.streams bytes scene.status)
-    ⊎ IsRefused disks file scene
+    ⊎ IsUntold disks file scene
 
 -- RESULTS
 -- the files of an order whose result goes to a target
@@ -84,7 +84,7 @@ places_to file target =
 abbrev pub DeliversRead : {D : Type 0} → List ℕ → Target → List ℕ → Scene D → Type 0
 DeliversRead file target bytes scene =
     ((string_bytes target.out ≡ codes "-") × (scene.now ≡ scene.was)
-    × WritesOut scene.streams bytes scene.status)
+    × WritesOrFails scene.streams bytes scene.status)
     ⊎ ((string_bytes target.out ≢ codes "-") × WritesNothing scene.streams
     × WritesResult (places_to file target) bytes scene.was scene.now scene.status)
 
@@ -99,7 +99,7 @@ abbrev pub WritesAnswer : {D : Type 0} → disk.Ghosts D → List ℕ → (State
 WritesAnswer {D} disks file Told target scene = ((bytes : List ℕ) × (mid : List (DeskDeed D))
     × Did scene.was mid (IsAsked disks file (λ state. Told state bytes))
     × Delivers file target bytes (record scene { was = mid }))
-    ⊎ IsRefused disks file scene
+    ⊎ IsUntold disks file scene
 
 -- A tune was written to a new file, whole, and then its revision was printed; or it was not
 -- written, and the status says so.
@@ -122,7 +122,7 @@ abbrev pub Drafts : {D : Type 0} → disk.Ghosts D → List ℕ → ℕ → List
 Drafts {D} disks file number out scene = ((tune : Tune) × (mid : List (DeskDeed D))
     × Did scene.was mid (IsAsked disks file (λ state. tune_at number state.tunes ≡ Some tune))
     × WritesDraft file tune out (record scene { was = mid }))
-    ⊎ IsRefused disks file scene
+    ⊎ IsUntold disks file scene
 
 -- INPUT
 -- The input was read to its end, and what was read was written where a target says; or it was not
@@ -151,15 +151,15 @@ abbrev pub RunsOnFile : {D : Type 0} → disk.Ghosts D → List ℕ → Scene D 
 RunsOnFile {D} disks file scene = ((mid : List (DeskDeed D))
     × Did scene.was mid (IsUnasked disks file)
     × RunsOnce disks file (record scene { was = mid }))
-    ⊎ IsRefused disks file scene
+    ⊎ IsUntold disks file scene
 
 -- THE FILES OF AN ORDER: FILE, where its result goes if it writes one to a file, and whether a file
 -- there may be written over. `SparesFiles` says what an order may do with its files.
 abbrev pub files_of : List ℕ → Order → Places
 files_of file (order.Write question target) = places_to file target
-files_of file (order.Draft number out) = places_of file (Some (string_bytes out)) false
+files_of file (order.Draft number out) = result_places file (Some (string_bytes out)) false
 files_of file (order.Place target) = places_to file target
-files_of file order = places_of file None false
+files_of file order = result_places file None false
 
 -- WHAT AN ORDER MAY DO WITH FILES: one that puts an archive where FILE leads makes it there, and
 -- one that makes it of a script keeps an entry before; one that copies FILE spares files, and takes
@@ -176,20 +176,21 @@ KeepsFiles file other was now = SparesFiles (files_of file other) was now
 -- CHANGES
 -- The turns that a change means, of the state that FILE held, were brought about; or the status
 -- says that they were not.
-abbrev pub AltersFile : {D : Type 0} → disk.Ghosts D → List ℕ → Alteration → Scene D → Type 0
-AltersFile disks file change scene = IsSilent scene.streams
-    × ChangesFile disks file (kind_of change) (λ state turns. planned_by change state ≡ Ok turns)
+abbrev pub CarriesAlteration : {D : Type 0} → disk.Ghosts D → List ℕ → Alteration → Scene D → Type 0
+CarriesAlteration disks file change scene = IsSilent scene.streams
+    × ChangesFile disks file (kind_of_alteration change)
+    (λ state turns. planned_by change state ≡ Ok turns)
     (record { was = scene.was; now = scene.now; status = scene.status })
 
 -- THE THEOREM OF THE FRONT END: what an order does with FILE, with other files, with standard
 -- input and output, and its status.
 abbrev pub CarriesOut : {D : Type 0} → disk.Ghosts D → List ℕ → Order → Scene D → Type 0
 CarriesOut disks file (order.Tell question) scene =
-    Tells disks file (λ state bytes. told question state ≡ Ok bytes) scene
+    TellsAnswer disks file (λ state bytes. told question state ≡ Ok bytes) scene
 CarriesOut disks file (order.Write question target) scene =
     WritesAnswer disks file (λ state bytes. told question state ≡ Ok bytes) target scene
 CarriesOut disks file order.Check scene =
-    Tells disks file (λ state bytes. bytes ≡ counts_bytes state) scene
+    TellsAnswer disks file (λ state bytes. bytes ≡ counts_bytes state) scene
 CarriesOut disks file (order.CheckCopy copy) scene = TellsCopy disks (string_bytes copy) scene
 CarriesOut disks file (order.Draft number out) scene =
     Drafts disks file number (string_bytes out) scene
@@ -200,7 +201,7 @@ CarriesOut disks file order.Make scene =
     IsSilent scene.streams × MakesEmpty disks file scene.was scene.now scene.status
 CarriesOut disks file (order.Restore copy force) scene =
     Restores disks file (string_bytes copy) scene
-CarriesOut disks file (order.Alter change) scene = AltersFile disks file change scene
+CarriesOut disks file (order.Alter change) scene = CarriesAlteration disks file change scene
 CarriesOut disks file (order.Replace number revision book) scene = ReplacesTune disks file
     (record { number = number; revision = revision; book = string_bytes book }) scene
 CarriesOut disks file (order.Undo undoing) scene = Undoes disks file undoing scene

@@ -1,7 +1,7 @@
 // Where a result goes.
 ghost use Rattle.std.specs.Prelude.{◌≡◌, Some, string_bytes};
 ghost use Rattle.tune_scripts.specs.Streams.{streams_in};
-ghost use Rattle.tune_desk.specs.Results.{places_of};
+ghost use Rattle.tune_desk.specs.Results.{result_places};
 ghost use Rattle.desk_scenes.specs.Scenes.{WritesResult};
 ghost use Rattle.desk_orders.specs.Orders.{Delivers};
 

@@ -3,7 +3,8 @@ ghost use Rattle.std.specs.Prelude.{◌≡◌, ◌≢◌, Ok, string_bytes};
 ghost use Rattle.tune_cli.specs.ProgramLines.{counts_bytes};
 ghost use Rattle.tune_scripts.specs.Streams.{streams_in};
 ghost use Rattle.desk_questions.specs.Told.{told};
-ghost use Rattle.desk_orders.specs.Orders.{CarriesOut, Tells, WritesAnswer, Drafts, PlacesInput};
+ghost use Rattle.desk_orders.specs.Orders.{CarriesOut, TellsAnswer, WritesAnswer, Drafts};
+ghost use Rattle.desk_orders.specs.Orders.{PlacesInput};
 ghost use Rattle.desk_scenes.specs.Scenes.{Scene};
 ghost use Rattle.desk_orders.specs.Orders.{RunsOnce, RunsOnFile, KeepsFiles};
 
@@ -81,7 +82,7 @@ fn tell<C: Console, E: Write, D: Disk, K: AllocGlobal + Desk<Disk = D>>(
     console: &mut C,
     errors: &mut E,
 ) -> u8
-    ensures { Tells D.Disk (string_bytes file.now)
+    ensures { TellsAnswer D.Disk (string_bytes file.now)
         (λ state bytes. told question.now state ≡ Ok bytes) (record {
           streams = streams_in C.Console console.old console.new;
           was = K.deeds desk.old;
@@ -155,7 +156,7 @@ fn check<C: Console, E: Write, D: Disk, K: AllocGlobal + Desk<Disk = D>>(
     console: &mut C,
     errors: &mut E,
 ) -> u8
-    ensures { Tells D.Disk (string_bytes file.now)
+    ensures { TellsAnswer D.Disk (string_bytes file.now)
         (λ state bytes. bytes ≡ counts_bytes state) (record {
           streams = streams_in C.Console console.old console.new;
           was = K.deeds desk.old;

@@ -15,18 +15,18 @@ use Rattle.tune_books.proofs.ReadBack.{book_gives_back}
 use Rattle.tune_sets.specs.Calls.{places_of, places_found, create_set, add_to}
 use Rattle.tune_sets.specs.Limits.{most_places, most_sets}
 use Rattle.tune_sets.specs.Names.{is_good_name, is_before}
-use Rattle.tune_sets.specs.Sets.{set_at, inserted, empty_set, with_numbers, IsTuneSet}
-use Rattle.tune_sets.specs.Sets.{RisesFrom as NamesRise}
+use Rattle.tune_sets.specs.Sets.{set_at, set_inserted, empty_set, with_numbers, IsTuneSet}
+use Rattle.tune_sets.specs.Sets.{NamesRiseFrom as NamesRise}
 use Rattle.tune_sets.specs.declared.set_lists.TuneSet.{TuneSet}
 use Rattle.tune_sets.proofs.NameOrder.{same_name, before_differs, before_not_after}
 use Rattle.tune_sets.proofs.ChangeLemmas.{rises-below}
 use Rattle.tune_store.specs.Limits.{longest_text, most_tunes, greatest_number}
 use Rattle.tune_store.specs.Questions.{exported}
 use Rattle.tune_store.specs.SetSteps.{set_add_found, sets_step}
-use Rattle.tune_store.specs.State.{State, RisesFrom, greatest, tune_at, empty_of, IsTune, IsState, AreHeld, NameTunes}
+use Rattle.tune_store.specs.State.{State, NumbersRiseFrom, greatest, tune_at, empty_of, IsTune, IsState, AreHeld, NameTunes}
 use Rattle.tune_store.specs.Step.{step}
-use Rattle.tune_store.specs.TuneSteps.{Outcome, numbered, with_texts, import_texts, import_book, tunes_step, inserted as tune_inserted}
-use Rattle.tune_store.specs.TuneSteps.{without, moved_if, moved}
+use Rattle.tune_store.specs.TuneSteps.{Outcome, numbered, with_texts, import_texts, import_book, tunes_step, tune_inserted as tune_inserted}
+use Rattle.tune_store.specs.TuneSteps.{without_tune, moved_if, moved}
 use Rattle.tune_store.specs.declared.layout.Layout.{Layout}
 use Rattle.tune_store.specs.declared.layout.Layout.TheVariants.{One, Two}
 use Rattle.tune_store.specs.declared.tune.Tune.{Tune}
@@ -36,22 +36,23 @@ use Rattle.tune_store.specs.declared.command.Reply.{Reply}
 use Rattle.tune_store.specs.declared.command.Reply.TheVariants.{Imported, Renumbered, SetMade, SetAdded}
 use Rattle.tune_store.proofs.LookUpLemmas.{renumber_moves}
 use Rattle.tune_store.proofs.StateLemmas.{greatest-append}
-use Rattle.desk_questions.specs.Dumps.{piece_size, book_of, imported, tune_commands, set_commands, sets_commands, dump_commands, LeadsTo, anew, made_anew}
+use Rattle.desk_questions.specs.Dumps.{piece_size, book_of, imported, tune_dump_commands, set_dump_commands, sets_commands, dump_commands, LeadsUnrefused}
+use Rattle.desk_questions.specs.Dumps.{imported_tune, made_anew}
 use Rattle.desk_questions.proofs.DumpLemmas.{goes_with, goes_next, goes_alone}
 use Rattle.desk_questions.proofs.TuneLemmas.{written_more}
 
 -- COMMANDS, ONE AFTER ANOTHER
-leads_on : (old mid new : State) (some more : List Command) → LeadsTo old some mid → LeadsTo mid more new → LeadsTo old (some ++ more) new
-leads_on old mid new [] more same leads = subst (λ (state : State). LeadsTo state more new) (sym same) leads
+leads_on : (old mid new : State) (some more : List Command) → LeadsUnrefused old some mid → LeadsUnrefused mid more new → LeadsUnrefused old (some ++ more) new
+leads_on old mid new [] more same leads = subst (λ (state : State). LeadsUnrefused state more new) (sym same) leads
 leads_on old mid new (command ∷ some) more first leads = (first.0, leads_on (step old command).0 mid new some more first.1 leads)
 
 -- a command that is accepted, and more
-leads_by : (old mid new : State) (command : Command) (reply : Reply) (more : List Command) → step old command ≡ (mid, Ok reply) → LeadsTo mid more new
-    → LeadsTo old (command ∷ more) new
+leads_by : (old mid new : State) (command : Command) (reply : Reply) (more : List Command) → step old command ≡ (mid, Ok reply) → LeadsUnrefused mid more new
+    → LeadsUnrefused old (command ∷ more) new
 leads_by old mid new command reply more e leads =
     let is : is_ok (step old command).1 ≡ true = ap (λ (outcome : Outcome). is_ok outcome.1) e in
     let to : (step old command).0 ≡ mid = ap (λ (outcome : Outcome). outcome.0) e in
-    (is, subst (λ (state : State). LeadsTo state more new) (sym to) leads)
+    (is, subst (λ (state : State). LeadsUnrefused state more new) (sym to) leads)
 
 -- TUNES
 -- a state of these tunes, without set lists
@@ -73,11 +74,11 @@ abbrev InRow : ℕ → List Tune → Type 0
 InRow last [] = Unit {0}
 InRow last (tune ∷ tunes) = (tune.number ≡ last + 1) × InRow tune.number tunes
 
-numbered_anew : (last : ℕ) (tunes : List Tune) → InRow last tunes → numbered (last + 1) (map (λ (tune : Tune). tune.text) tunes) ≡ map anew tunes
+numbered_anew : (last : ℕ) (tunes : List Tune) → InRow last tunes → numbered (last + 1) (map (λ (tune : Tune). tune.text) tunes) ≡ map imported_tune tunes
 numbered_anew last [] row = refl
 numbered_anew last (tune ∷ tunes) row =
     ap (λ (n : ℕ). record { number = n; revision = 1; text = tune.text } ∷ numbered (n + 1) (map (λ (tune : Tune). tune.text) tunes)) (sym row.0)
-    ∙ ap (λ (rest : List Tune). anew tune ∷ rest) (numbered_anew tune.number tunes row.1)
+    ∙ ap (λ (rest : List Tune). imported_tune tune ∷ rest) (numbered_anew tune.number tunes row.1)
 
 row-push : (last : ℕ) (tunes : List Tune) (tune : Tune) → InRow last tunes → tune.number ≡ last + length tunes + 1 → InRow last (tunes ++ tune ∷ [])
 row-push last [] tune row next = (omega arith, tt)
@@ -88,7 +89,7 @@ greatest_row : (last : ℕ) (tunes : List Tune) → InRow last tunes → max las
 greatest_row last [] row = omega arith
 greatest_row last (tune ∷ tunes) row = let e = row.0 in let later = greatest_row tune.number tunes row.1 in omega arith
 
-greatest-anew : (tunes : List Tune) → greatest (map anew tunes) ≡ greatest tunes
+greatest-anew : (tunes : List Tune) → greatest (map imported_tune tunes) ≡ greatest tunes
 greatest-anew [] = refl
 greatest-anew (tune ∷ tunes) = ap (λ n. max tune.number n) (greatest-anew tunes)
 
@@ -146,21 +147,21 @@ import_gives old tune tunes each short room numbers =
 piece_gives : (done : List Tune) (tune : Tune) (tunes : List Tune) → InRow (greatest done) (tune ∷ tunes) → AllByRecursion Fits (tune ∷ tunes)
     → length (exported (tune ∷ tunes)) ≤ longest_book → length done + length (tune ∷ tunes) ≤ 50000
     → greatest done + length (tune ∷ tunes) ≤ greatest_number
-    → LeadsTo (at (map anew done)) (imported (book_of (tune ∷ tunes))) (at (map anew (done ++ tune ∷ tunes)))
+    → LeadsUnrefused (at (map imported_tune done)) (imported (book_of (tune ∷ tunes))) (at (map imported_tune (done ++ tune ∷ tunes)))
 piece_gives done tune tunes row each short room numbers =
     let all = tune ∷ tunes in
-    let old = map anew done in
+    let old = map imported_tune done in
     let top : greatest old ≡ greatest done = greatest-anew done in
-    let count : length old ≡ length done = length-map done anew in
-    let whole : with_texts old (texts_in all) ≡ map anew (done ++ all) =
+    let count : length old ≡ length done = length-map done imported_tune in
+    let whole : with_texts old (texts_in all) ≡ map imported_tune (done ++ all) =
     ap (λ n. old ++ numbered (n + 1) (texts_in all)) top ∙ ap (λ (more : List Tune). old ++ more) (numbered_anew (greatest done) all row)
-    ∙ sym (map-append anew done all) in
+    ∙ sym (map-append imported_tune done all) in
     leads_by _ _ _ (Import (exported all)) _ [] (import_gives old tune tunes each short (omega arith) (omega arith)) (ap at whole)
 
 import_leads : (done piece : List Tune) → InRow (greatest done) piece → AllByRecursion Fits piece
     → length (book_of piece) ≤ longest_book → length done + length piece ≤ 50000 → greatest done + length piece ≤ greatest_number
-    → LeadsTo (at (map anew done)) (imported (book_of piece)) (at (map anew (done ++ piece)))
-import_leads done [] row each short room numbers = ap (λ (tunes : List Tune). at (map anew tunes)) (sym (append-nil done))
+    → LeadsUnrefused (at (map imported_tune done)) (imported (book_of piece)) (at (map imported_tune (done ++ piece)))
+import_leads done [] row each short room numbers = ap (λ (tunes : List Tune). at (map imported_tune tunes)) (sym (append-nil done))
 import_leads done (tune ∷ tunes) row each short room numbers = piece_gives done tune tunes row each short room numbers
 
 -- RENUMBER
@@ -173,7 +174,7 @@ found_last [] tune above = rw (eq-eqb tune.number tune.number refl) refl
 found_last (first ∷ tunes) tune above =
     rw (ne_eqb first.number tune.number (λ e. absurd (omega arith))) (found_last tunes tune (omega arith))
 
-without_last : (tunes : List Tune) (tune : Tune) → greatest tunes < tune.number → without tune.number (tunes ++ tune ∷ []) ≡ tunes
+without_last : (tunes : List Tune) (tune : Tune) → greatest tunes < tune.number → without_tune tune.number (tunes ++ tune ∷ []) ≡ tunes
 without_last [] tune above = rw (eq-eqb tune.number tune.number refl) refl
 without_last (first ∷ tunes) tune above =
     rw (ne_eqb first.number tune.number (λ e. absurd (omega arith))) (ap (λ (rest : List Tune). first ∷ rest) (without_last tunes tune (omega arith)))
@@ -194,7 +195,7 @@ renumber_gives old tune from low gap few =
     let has : tune_at from all ≡ Some had = found_last old had low in
     let top : greatest all ≡ max (greatest old) (greatest (had ∷ [])) = greatest-append old (had ∷ []) in
     let free : tune_at tune.number all ≡ None = none_above tune.number all (omega arith) in
-    let rest : without from all ≡ old = without_last old had low in
+    let rest : without_tune from all ≡ old = without_last old had low in
     let whole : moved from tune.number all ≡ old ++ tune ∷ [] =
     ap (moved_if tune.number all) has ∙ ap (tune_inserted tune) rest ∙ inserted_last old tune (omega arith) in
     renumber_moves (at all) from tune.number had (omega arith) few has free
@@ -225,14 +226,15 @@ length_more (first ∷ piece) tune fits =
     omega arith
 
 alone_gives : (done : List Tune) (tune : Tune) (last : ℕ) → last ≡ greatest done → Fits tune → last + 1 < tune.number → length done + 1 ≤ 50000
-    → LeadsTo (at (map anew done)) (Import (exported (tune ∷ [])) ∷ Renumber (last + 1) tune.number ∷ []) (at (map anew (done ++ tune ∷ [])))
+    → LeadsUnrefused (at (map imported_tune done)) (Import (exported (tune ∷ [])) ∷ Renumber (last + 1) tune.number ∷ [])
+    (at (map imported_tune (done ++ tune ∷ [])))
 alone_gives done tune last is fits gap room =
-    let old = map anew done in
+    let old = map imported_tune done in
     let few = fits.number in
     let top : greatest old ≡ greatest done = greatest-anew done in
-    let count : length old ≡ length done = length-map done anew in
+    let count : length old ≡ length done = length-map done imported_tune in
     let short = length_one tune fits in
-    let new : Tune = anew tune in
+    let new : Tune = imported_tune tune in
     let put : with_texts old (tune.text ∷ []) ≡ old ++ under (last + 1) new ∷ [] =
     ap (λ (n : ℕ). old ++ record { number = n + 1; revision = 1; text = tune.text } ∷ []) (top ∙ sym is) in
     let mid = at (old ++ under (last + 1) new ∷ []) in
@@ -243,7 +245,7 @@ alone_gives done tune last is fits gap room =
           old + 1)),
     )) put)
     (leads_by mid (at (old ++ new ∷ [])) _ (Renumber (last + 1) tune.number) _ [] (renumber_gives old new (last + 1) (omega arith) gap few)
-    (ap at (sym (map-append anew done (tune ∷ [])))))
+    (ap at (sym (map-append imported_tune done (tune ∷ [])))))
 
 -- ALL TUNES
 -- what is known where these went in, those of the piece were begun, and these are still to come
@@ -251,7 +253,7 @@ record Stands (done piece rest : List Tune) (last : ℕ) : Type 0 where
   row : InRow (greatest done) piece
   ends : last ≡ greatest done + length piece
   within : last ≤ greatest_number
-  rises : RisesFrom last rest
+  rises : NumbersRiseFrom last rest
   fits_piece : AllByRecursion Fits piece
   fits_rest : AllByRecursion Fits rest
   room : length done + length piece + length rest ≤ 50000
@@ -322,7 +324,7 @@ stands_alone done piece rest tune last was =
     }
 
 piece_leads : (done piece rest : List Tune) (last : ℕ) → Stands done piece rest last
-    → LeadsTo (at (map anew done)) (imported (book_of piece)) (at (map anew (done ++ piece)))
+    → LeadsUnrefused (at (map imported_tune done)) (imported (book_of piece)) (at (map imported_tune (done ++ piece)))
 piece_leads done piece rest last was =
     let ends = was.ends in
     let room = was.room in
@@ -331,7 +333,7 @@ piece_leads done piece rest last was =
     import_leads done piece was.row was.fits_piece (omega arith) (omega arith) (omega arith)
 
 abbrev Leads : List Tune → List Command → List Tune → Type 0
-Leads old commands new = LeadsTo (at (map anew old)) commands (at (map anew new))
+Leads old commands new = LeadsUnrefused (at (map imported_tune old)) commands (at (map imported_tune new))
 
 ends_at : (old new other : List Tune) (commands : List Command) → new ≡ other → Leads old commands new → Leads old commands other
 ends_at old new other commands same leads = subst (λ (tunes : List Tune). Leads old commands tunes) same leads
@@ -339,7 +341,7 @@ ends_at old new other commands same leads = subst (λ (tunes : List Tune). Leads
 by_commands : (old new : List Tune) (commands others : List Command) → commands ≡ others → Leads old others new → Leads old commands new
 by_commands old new commands others same leads = subst (λ (some : List Command). Leads old some new) (sym same) leads
 
-tunes_lead : (done piece rest : List Tune) (last : ℕ) → Stands done piece rest last → Leads done (tune_commands last piece rest) (done ++ (piece ++ rest))
+tunes_lead : (done piece rest : List Tune) (last : ℕ) → Stands done piece rest last → Leads done (tune_dump_commands last piece rest) (done ++ (piece ++ rest))
 tunes_lead done piece [] last was =
     ends_at done (done ++ piece) (done ++ (piece ++ [])) (imported (book_of piece)) (ap (λ (tunes : List Tune). done ++ tunes) (sym (append-nil piece)))
     (piece_leads done piece [] last was)
@@ -350,7 +352,7 @@ tunes_lead done piece (tune ∷ rest) last was = elim (cases_Bool (eqb tune.numb
         | inl full ↦
             by_commands _ _ _ _ (goes_next last tune piece rest next (ltb-true piece_size (length (book_of piece)) full))
             (ends_at done ((done ++ piece) ++ (tune ∷ rest)) _ _ (append_assoc done piece (tune ∷ rest))
-            (leads_on _ (at (map anew (done ++ piece))) _ (imported (book_of piece)) _ (piece_leads done piece (tune ∷ rest) last was)
+            (leads_on _ (at (map imported_tune (done ++ piece))) _ (imported (book_of piece)) _ (piece_leads done piece (tune ∷ rest) last was)
             (tunes_lead (done ++ piece) (tune ∷ []) rest tune.number (stands_next done piece rest tune last was next))))
         | inr fits ↦
             let short = ltb-false piece_size (length (book_of piece)) fits in
@@ -368,8 +370,8 @@ tunes_lead done piece (tune ∷ rest) last was = elim (cases_Bool (eqb tune.numb
       by_commands _ _ _ _ (goes_alone last tune piece rest gap)
       (ends_at done (((done ++ piece) ++ tune ∷ []) ++ rest) _ _
       (append_assoc (done ++ piece) (tune ∷ []) rest ∙ append_assoc done piece (tune ∷ rest))
-      (leads_on _ (at (map anew (done ++ piece))) _ (imported (book_of piece)) _ (piece_leads done piece (tune ∷ rest) last was)
-      (leads_on (at (map anew (done ++ piece))) (at (map anew ((done ++ piece) ++ tune ∷ []))) _
+      (leads_on _ (at (map imported_tune (done ++ piece))) _ (imported (book_of piece)) _ (piece_leads done piece (tune ∷ rest) last was)
+      (leads_on (at (map imported_tune (done ++ piece))) (at (map imported_tune ((done ++ piece) ++ tune ∷ []))) _
       (Import (exported (tune ∷ [])) ∷ Renumber (last + 1) tune.number ∷ []) _
       (alone_gives (done ++ piece) tune last (omega arith) was.fits_rest.0 (omega arith) (omega arith))
       (tunes_lead ((done ++ piece) ++ tune ∷ []) [] rest tune.number (stands_alone done piece rest tune last was)))))
@@ -387,10 +389,10 @@ set_none : (name : List ℕ) (lists : List TuneSet) → AreBefore name lists →
 set_none name [] before = refl
 set_none name (set ∷ lists) before = rw (before_differs set.name name before.0) (set_none name lists before.1)
 
-set_inserted : (new : TuneSet) (lists : List TuneSet) → AreBefore new.name lists → inserted new lists ≡ lists ++ new ∷ []
-set_inserted new [] before = refl
-set_inserted new (set ∷ lists) before =
-    rw (before_not_after set.name new.name before.0) (ap (λ (rest : List TuneSet). set ∷ rest) (set_inserted new lists before.1))
+set_comes_last : (new : TuneSet) (lists : List TuneSet) → AreBefore new.name lists → set_inserted new lists ≡ lists ++ new ∷ []
+set_comes_last new [] before = refl
+set_comes_last new (set ∷ lists) before =
+    rw (before_not_after set.name new.name before.0) (ap (λ (rest : List TuneSet). set ∷ rest) (set_comes_last new lists before.1))
 
 set_found : (lists : List TuneSet) (set : TuneSet) → AreBefore set.name lists → set_at set.name (lists ++ set ∷ []) ≡ Some set
 set_found [] set before = rw (same_name set.name set.name refl) refl
@@ -410,9 +412,9 @@ create_gives : (tunes : List Tune) (lists : List TuneSet) (name : List ℕ) → 
 create_gives tunes lists name good before room =
     let none = set_none name lists before in
     let few : leb most_sets (length lists) ≡ false = lt-leb most_sets (length lists) room in
-    let made : create_set name lists ≡ (inserted (empty_set name) lists, Ok tt) = rw (good, none, few) refl in
+    let made : create_set name lists ≡ (set_inserted (empty_set name) lists, Ok tt) = rw (good, none, few) refl in
     ap (sets_step (λ done. SetMade name) (kept tunes lists))
-    (made ∙ ap (λ (new : List TuneSet). (new, Ok tt)) (set_inserted (empty_set name) lists before))
+    (made ∙ ap (λ (new : List TuneSet). (new, Ok tt)) (set_comes_last (empty_set name) lists before))
 
 add_gives : (tunes : List Tune) (lists : List TuneSet) (set : TuneSet) (number : ℕ) → AreBefore set.name lists → length set.numbers < most_places
     → is_some (tune_at number tunes) ≡ true
@@ -438,20 +440,20 @@ add_gives tunes lists set number before room held = by (tune_at number tunes) re
 
 adds_lead : (tunes : List Tune) (lists : List TuneSet) (name numbers more : List ℕ) → AreBefore name lists → length numbers + length more ≤ most_places
     → AllByRecursion (λ number. is_some (tune_at number tunes) ≡ true) more
-    → LeadsTo (kept tunes (lists ++ renamed name numbers ∷ [])) (map (SetAdd name) more) (kept tunes (lists ++ renamed name (numbers ++ more) ∷ []))
+    → LeadsUnrefused (kept tunes (lists ++ renamed name numbers ∷ [])) (map (SetAdd name) more) (kept tunes (lists ++ renamed name (numbers ++ more) ∷ []))
 adds_lead tunes lists name numbers [] before room held =
     ap (λ some. kept tunes (lists ++ renamed name some ∷ [])) (sym (append-nil numbers))
 adds_lead tunes lists name numbers (number ∷ more) before room held =
     let count = length-append numbers (number ∷ []) in
     leads_by _ (kept tunes (lists ++ renamed name (numbers ++ number ∷ []) ∷ [])) _ (SetAdd name number) _ (map (SetAdd name) more)
     (add_gives tunes lists (renamed name numbers) number before (omega arith) held.0)
-    (subst (λ some. LeadsTo (kept tunes (lists ++ renamed name (numbers ++ number ∷ []) ∷ [])) (map (SetAdd name) more)
+    (subst (λ some. LeadsUnrefused (kept tunes (lists ++ renamed name (numbers ++ number ∷ []) ∷ [])) (map (SetAdd name) more)
     (kept tunes (lists ++ renamed name some ∷ []))) (append_assoc numbers (number ∷ []) more)
     (adds_lead tunes lists name (numbers ++ number ∷ []) more before (omega arith) held.1))
 
 set_leads : (tunes : List Tune) (lists : List TuneSet) (set : TuneSet) → IsTuneSet set → AreBefore set.name lists → length lists < most_sets
     → AllByRecursion (λ number. is_some (tune_at number tunes) ≡ true) set.numbers
-    → LeadsTo (kept tunes lists) (set_commands set.name (Ok set.numbers)) (kept tunes (lists ++ set ∷ []))
+    → LeadsUnrefused (kept tunes lists) (set_dump_commands set.name (Ok set.numbers)) (kept tunes (lists ++ set ∷ []))
 set_leads tunes lists set is before room held =
     let few = is.places in
     leads_by _ (kept tunes (lists ++ empty_set set.name ∷ [])) _ (SetNew set.name) _ (map (SetAdd set.name) set.numbers)
@@ -495,22 +497,22 @@ sets_lead : (tunes : List Tune) (all lists rest : List TuneSet) (low : List ℕ)
     → AllByRecursion IsTuneSet rest → length lists + length rest ≤ most_sets
     → AllByRecursion (λ (set : TuneSet). AllByRecursion (λ number. is_some (tune_at number tunes) ≡ true) set.numbers) rest
     → AllByRecursion (λ (set : TuneSet). set_at set.name all ≡ Some set) rest
-    → LeadsTo (kept tunes lists) (flat_map (λ (set : TuneSet). set_commands set.name (places_of set.name all)) rest) (kept tunes (lists ++ rest))
+    → LeadsUnrefused (kept tunes lists) (flat_map (λ (set : TuneSet). set_dump_commands set.name (places_of set.name all)) rest) (kept tunes (lists ++ rest))
 sets_lead tunes all lists [] low rises ahead each room held own = ap (kept tunes) (sym (append-nil lists))
 sets_lead tunes all lists (set ∷ rest) low rises ahead each room held own =
     let count = length-append lists (set ∷ []) in
-    let first : set_commands set.name (places_of set.name all) ≡ set_commands set.name (Ok set.numbers) =
-    ap (λ (found : Option TuneSet). set_commands set.name (places_found found)) own.0 in
-    leads_on _ (kept tunes (lists ++ set ∷ [])) _ (set_commands set.name (places_of set.name all)) _
-    (subst (λ (some : List Command). LeadsTo (kept tunes lists) some (kept tunes (lists ++ set ∷ []))) (sym first)
+    let first : set_dump_commands set.name (places_of set.name all) ≡ set_dump_commands set.name (Ok set.numbers) =
+    ap (λ (found : Option TuneSet). set_dump_commands set.name (places_found found)) own.0 in
+    leads_on _ (kept tunes (lists ++ set ∷ [])) _ (set_dump_commands set.name (places_of set.name all)) _
+    (subst (λ (some : List Command). LeadsUnrefused (kept tunes lists) some (kept tunes (lists ++ set ∷ []))) (sym first)
     (set_leads tunes lists set each.0 ahead.0 (omega arith) held.0))
-    (subst (λ (some : List TuneSet). LeadsTo (kept tunes (lists ++ set ∷ []))
-    (flat_map (λ (set : TuneSet). set_commands set.name (places_of set.name all)) rest) (kept tunes some)) (append_assoc lists (set ∷ []) rest)
+    (subst (λ (some : List TuneSet). LeadsUnrefused (kept tunes (lists ++ set ∷ []))
+    (flat_map (λ (set : TuneSet). set_dump_commands set.name (places_of set.name all)) rest) (kept tunes some)) (append_assoc lists (set ∷ []) rest)
     (sets_lead tunes all (lists ++ set ∷ []) rest set.name rises.1 (ahead_more lists rest set ahead.1 (later_names set.name rest rises.1))
     each.1 (omega arith) held.1 own.1))
 
 -- THE WHOLE
-at_anew : (number : ℕ) (tunes : List Tune) → is_some (tune_at number (map anew tunes)) ≡ is_some (tune_at number tunes)
+at_anew : (number : ℕ) (tunes : List Tune) → is_some (tune_at number (map imported_tune tunes)) ≡ is_some (tune_at number tunes)
 at_anew number [] = refl
 at_anew number (tune ∷ tunes) = elim (cases_Bool (eqb tune.number number)) [
   | inl same ↦ rw same refl
@@ -518,12 +520,12 @@ at_anew number (tune ∷ tunes) = elim (cases_Bool (eqb tune.number number)) [
 ]
 
 held_anew : (tunes : List Tune) (numbers : List ℕ) → AreHeld tunes numbers
-    → AllByRecursion (λ number. is_some (tune_at number (map anew tunes)) ≡ true) numbers
+    → AllByRecursion (λ number. is_some (tune_at number (map imported_tune tunes)) ≡ true) numbers
 held_anew tunes [] held = tt
 held_anew tunes (number ∷ numbers) held = (at_anew number tunes ∙ held.0, held_anew tunes numbers held.1)
 
 all_held : (tunes : List Tune) (lists : List TuneSet) → NameTunes tunes lists
-    → AllByRecursion (λ (set : TuneSet). AllByRecursion (λ number. is_some (tune_at number (map anew tunes)) ≡ true) set.numbers) lists
+    → AllByRecursion (λ (set : TuneSet). AllByRecursion (λ number. is_some (tune_at number (map imported_tune tunes)) ≡ true) set.numbers) lists
 all_held tunes [] named = tt
 all_held tunes (set ∷ lists) named = (held_anew tunes set.numbers named.0, all_held tunes lists named.1)
 
@@ -557,10 +559,10 @@ begins_so state is =
       short = omega arith;
     }
 
-pub dump_leads : (state : State) → IsState state → LeadsTo (empty_of Two) (dump_commands state) (made_anew state)
+pub dump_leads : (state : State) → IsState state → LeadsUnrefused (empty_of Two) (dump_commands state) (made_anew state)
 dump_leads state is =
-    let tunes = map anew state.tunes in
-    leads_on (empty_of Two) (kept tunes []) (made_anew state) (tune_commands 0 [] state.tunes) (sets_commands state.sets)
+    let tunes = map imported_tune state.tunes in
+    leads_on (empty_of Two) (kept tunes []) (made_anew state) (tune_dump_commands 0 [] state.tunes) (sets_commands state.sets)
     (tunes_lead [] [] state.tunes 0 (begins_so state is))
     (sets_lead tunes state.sets [] state.sets [] is.sets.rises (ahead_none state.sets) is.sets.each (omega (arith, is.sets.count))
     (all_held state.tunes state.sets is.named) (own_sets [] state.sets is.sets.rises))

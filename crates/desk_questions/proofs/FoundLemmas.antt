@@ -12,31 +12,31 @@ use Rattle.std.proofs.lemmas.List.{take_more, get_or-map, length-map}
 use Rattle.tune_store.specs.Labels.{labels_of, numbers_of, LabelsRise}
 use Rattle.tune_store.specs.Limits.{notes_of}
 use Rattle.tune_store.specs.Questions.{row_of, titled}
-use Rattle.tune_store.specs.State.{State, RisesFrom}
+use Rattle.tune_store.specs.State.{State, NumbersRiseFrom}
 use Rattle.tune_store.specs.declared.catalog.Label.{Label}
 use Rattle.tune_store.specs.declared.tune.Tune.{Tune}
 use Rattle.tune_store.specs.declared.index_rows.IndexRow.{IndexRow}
-use Rattle.desk_questions.specs.Conditions.{gives, asks_nothing, has_no_words, queries_of, is_too_long}
-use Rattle.desk_questions.specs.Told.{found}
+use Rattle.desk_questions.specs.Conditions.{gives, asks_nothing, has_no_words, queries_of, is_query_too_long}
+use Rattle.desk_questions.specs.Told.{found_by_all}
 use Rattle.desk_terms.specs.declared.condition.Condition.{Condition}
 use Rattle.desk_terms.specs.declared.condition.Condition.TheVariants.{Title, Within, Rhythm, Key, Notes}
 use Rattle.desk_questions.specs.Inside.SoughtWords.{looks_at_titles}
 use Rattle.abc_fields.specs.Fields.{titles_of}
-use Rattle.desk_questions.specs.Inside.QuestionCalls.{is_among, passes, Adds, has_some_title, has_row_title, AreFoundBySome, AreGiven, AreFound}
+use Rattle.desk_questions.specs.Inside.QuestionCalls.{has_number, passes, AddsPassing, has_some_title, has_row_title, AreFoundBySome, AreNumbersGiven, AreFound}
 use Rattle.desk_questions.proofs.NumberLemmas.{among_more, among_passed, among_titled, passes_or, passes_none, passes_same, any_same, found_more, filter_same}
 
 -- NUMBERS THAT ARE ADDED
 -- those of the rows that a query finds
 pub adds_found : (old new : List ℕ) (test : List ℕ → Bool) (tunes : List Tune)
-    → new ≡ old ++ map (λ (row : IndexRow). row.number) (map row_of (filter (λ (tune : Tune). test tune.text) tunes)) → Adds old new test tunes
+    → new ≡ old ++ map (λ (row : IndexRow). row.number) (map row_of (filter (λ (tune : Tune). test tune.text) tunes)) → AddsPassing old new test tunes
 adds_found old new test tunes e number =
-    ap (λ numbers. is_among numbers number) e ∙ among_more old _ number ∙ ap (λ b. is_among old number || b) (among_passed test tunes number)
+    ap (λ numbers. has_number numbers number) e ∙ among_more old _ number ∙ ap (λ b. has_number old number || b) (among_passed test tunes number)
 
 -- those of the rows of an index that have such a title
 pub adds_titled : (condition : Condition) (old new : List ℕ) (tunes : List Tune)
-    → new ≡ old ++ map (λ (row : IndexRow). row.number) (filter (has_row_title condition) (titled tunes)) → Adds old new (has_some_title condition) tunes
+    → new ≡ old ++ map (λ (row : IndexRow). row.number) (filter (has_row_title condition) (titled tunes)) → AddsPassing old new (has_some_title condition) tunes
 adds_titled condition old new tunes e number =
-    ap (λ numbers. is_among numbers number) e ∙ among_more old _ number ∙ ap (λ b. is_among old number || b) (among_titled condition tunes number)
+    ap (λ numbers. has_number numbers number) e ∙ among_more old _ number ∙ ap (λ b. has_number old number || b) (among_titled condition tunes number)
 
 any_no : {X : Type 0} (xs : List X) → list_any (λ x. false) xs ≡ false
 any_no [] = refl
@@ -50,10 +50,10 @@ no_titles (Key key) e text = any_no (titles_of text)
 no_titles (Notes notes key) e text = any_no (titles_of text)
 
 -- none
-pub adds_none : (numbers : List ℕ) (test : List ℕ → Bool) (tunes : List Tune) → ((text : List ℕ) → test text ≡ false) → Adds numbers numbers test tunes
+pub adds_none : (numbers : List ℕ) (test : List ℕ → Bool) (tunes : List Tune) → ((text : List ℕ) → test text ≡ false) → AddsPassing numbers numbers test tunes
 adds_none numbers test tunes none number =
-    sym (ap (λ b. is_among numbers number || b) (passes_same test (λ text. false) tunes number none ∙ passes_none tunes number) ∙ or_false
-    (is_among numbers number))
+    sym (ap (λ b. has_number numbers number || b) (passes_same test (λ text. false) tunes number none ∙ passes_none tunes number) ∙ or_false
+    (has_number numbers number))
   where
     or_false : (b : Bool) → (b || false) ≡ b
     or_false true = refl
@@ -63,12 +63,12 @@ adds_none numbers test tunes none number =
 pub found_by_no : (state : State) (numbers : List ℕ) → numbers ≡ [] → AreFoundBySome [] state numbers
 found_by_no state numbers e = record {
   ask = refl;
-  are = λ number. ap (λ some. is_among some number) e ∙ sym (passes_none state.tunes number);
+  are = λ number. ap (λ some. has_number some number) e ∙ sym (passes_none state.tunes number);
 }
 
 -- one query more
 pub found_by_more : (queries : List Query) (query : Query) (state : State) (old new : List ℕ) → AreFoundBySome queries state old
-    → is_bad query ≡ false → Adds old new (matches (notes_of state.layout) query) state.tunes → AreFoundBySome (queries ++ query ∷ []) state new
+    → is_bad query ≡ false → AddsPassing old new (matches (notes_of state.layout) query) state.tunes → AreFoundBySome (queries ++ query ∷ []) state new
 found_by_more queries query state old new was good adds =
     let notes = notes_of state.layout in
     let one : List ℕ → Bool = λ text. list_any (λ query. matches notes query text) queries in
@@ -106,16 +106,16 @@ any_either p q (x ∷ xs) = swap (p x) (q x) (list_any p xs) (list_any q xs) (an
     swap false false c d h = h
 
 -- what a condition asks for, by the parts of the code
-pub asks_something : (condition : Condition) → has_no_words condition ≡ false → list_any is_too_long (queries_of condition) ≡ false
+pub asks_something : (condition : Condition) → has_no_words condition ≡ false → list_any is_query_too_long (queries_of condition) ≡ false
     → list_any is_bad (queries_of condition) ≡ false → asks_nothing condition ≡ false
-asks_something condition words long bad = rw words (any_either is_too_long is_bad (queries_of condition) ∙ rw (long, bad) refl)
+asks_something condition words long bad = rw words (any_either is_query_too_long is_bad (queries_of condition) ∙ rw (long, bad) refl)
 
 pub asks_for_no_words : (condition : Condition) → has_no_words condition ≡ true → asks_nothing condition ≡ true
 asks_for_no_words condition words = rw words refl
 
-pub asks_too_long : (condition : Condition) → list_any is_too_long (queries_of condition) ≡ true → asks_nothing condition ≡ true
+pub asks_too_long : (condition : Condition) → list_any is_query_too_long (queries_of condition) ≡ true → asks_nothing condition ≡ true
 asks_too_long condition long =
-    ap (λ b. has_no_words condition || b) (any_either is_too_long is_bad (queries_of condition) ∙ rw long refl) ∙ or_true (has_no_words condition)
+    ap (λ b. has_no_words condition || b) (any_either is_query_too_long is_bad (queries_of condition) ∙ rw long refl) ∙ or_true (has_no_words condition)
   where
     or_true : (b : Bool) → (b || true) ≡ true
     or_true true = refl
@@ -123,8 +123,8 @@ asks_too_long condition long =
 
 pub asks_badly : (condition : Condition) → list_any is_bad (queries_of condition) ≡ true → asks_nothing condition ≡ true
 asks_badly condition bad =
-    ap (λ b. has_no_words condition || b) (any_either is_too_long is_bad (queries_of condition) ∙ rw bad
-    (or_true (list_any is_too_long (queries_of condition))))
+    ap (λ b. has_no_words condition || b) (any_either is_query_too_long is_bad (queries_of condition) ∙ rw bad
+    (or_true (list_any is_query_too_long (queries_of condition))))
     ∙ or_true (has_no_words condition)
   where
     or_true : (b : Bool) → (b || true) ≡ true
@@ -133,8 +133,8 @@ asks_badly condition bad =
 
 -- the numbers by its queries, and those by titles
 pub given_by : (condition : Condition) (state : State) (queries : List Query) (old new : List ℕ) → asks_nothing condition ≡ false
-    → queries ≡ queries_of condition → AreFoundBySome queries state old → Adds old new (has_some_title condition) state.tunes
-    → AreGiven condition state new
+    → queries ≡ queries_of condition → AreFoundBySome queries state old → AddsPassing old new (has_some_title condition) state.tunes
+    → AreNumbersGiven condition state new
 given_by condition state queries old new asks made by_queries by_titles =
     let notes = notes_of state.layout in
     record {
@@ -146,11 +146,11 @@ given_by condition state queries old new asks made by_queries by_titles =
     }
 
 -- the same numbers in order
-pub among_sorted : (given sorted numbers : List ℕ) → IsPermutation given sorted → filter (is_among sorted) numbers ≡ filter (is_among given) numbers
+pub among_sorted : (given sorted numbers : List ℕ) → IsPermutation given sorted → filter (has_number sorted) numbers ≡ filter (has_number given) numbers
 among_sorted given sorted numbers moved = filter_same _ _ (λ number. sym (list_any-IsPermutation (λ other. other == number) given sorted moved)) numbers
 
 -- CONDITIONS
-pub rises_of : (low : ℕ) (tunes : List Tune) → LabelsRise low (labels_of tunes) → RisesFrom low tunes
+pub rises_of : (low : ℕ) (tunes : List Tune) → LabelsRise low (labels_of tunes) → NumbersRiseFrom low tunes
 rises_of low [] rises = tt
 rises_of low (tune ∷ tunes) rises = (rises.0, rises_of tune.number tunes rises.1)
 
@@ -171,7 +171,7 @@ found_by_none labels state numbers rise e = record {
 -- of one condition more
 pub found_by_next : (conditions : List Condition) (i : ℕ) (condition : Condition) (labels : List Label) (state : State) (numbers given new : List ℕ)
     → i < length conditions → condition ≡ get_or conditions i condition
-    → AreFound (take i conditions) labels state numbers → AreGiven condition state given → new ≡ filter (is_among given) numbers
+    → AreFound (take i conditions) labels state numbers → AreNumbersGiven condition state given → new ≡ filter (has_number given) numbers
     → AreFound (take (i + 1) conditions) labels state new
 found_by_next conditions i condition labels state numbers given new l at was gives_ e =
     let notes = notes_of state.layout in
@@ -181,7 +181,7 @@ found_by_next conditions i condition labels state numbers given new l at was giv
       rise = was.rise;
       are = λ same.
           let rises = rises_of 0 state.tunes (subst (LabelsRise 0) same was.rise) in
-          e ∙ ap (filter (is_among given)) (was.are same) ∙ found_more given before (gives notes condition) state.tunes rises gives_.gives
+          e ∙ ap (filter (has_number given)) (was.are same) ∙ found_more given before (gives notes condition) state.tunes rises gives_.gives
           ∙ ap (map (λ (tune : Tune). tune.number)) (filter_same _ _
           (λ (tune : Tune). sym (list_all_more (λ condition. gives notes condition tune.text) conditions i condition l
           ∙ ap (λ one. before tune && gives notes one tune.text) (sym at))) state.tunes);

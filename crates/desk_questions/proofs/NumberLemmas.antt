@@ -14,13 +14,13 @@ use Rattle.tune_titles.specs.Order.{PlacedTitle, row_order, in_order, put_in}
 use Rattle.tune_titles.specs.Titles.{index_title}
 use Rattle.std.specs.declared.cmp.Ordering.{Ordering}
 use Rattle.std.specs.Ordering.{is_lt, nat_cmp}
-use Rattle.tune_store.specs.State.{State, RisesFrom}
+use Rattle.tune_store.specs.State.{State, NumbersRiseFrom}
 use Rattle.tune_store.specs.Questions.{row_of, titles_from, all_titles, title_row, titled}
 use Rattle.tune_store.specs.declared.tune.Tune.{Tune}
 use Rattle.tune_store.specs.declared.index_rows.IndexRow.{IndexRow}
 use Rattle.desk_questions.specs.Conditions.{gives, has_title}
 use Rattle.desk_terms.specs.declared.condition.Condition.{Condition}
-use Rattle.desk_questions.specs.Inside.QuestionCalls.{is_among, passes, has_some_title, has_row_title}
+use Rattle.desk_questions.specs.Inside.QuestionCalls.{has_number, passes, has_some_title, has_row_title}
 
 -- BOOLEANS
 or_false : (b : Bool) → (b || false) ≡ b
@@ -87,12 +87,12 @@ any_in_order cmp p [] = refl
 any_in_order cmp p (x ∷ xs) = any_put cmp p x (in_order cmp xs) ∙ ap (λ b. p x || b) (any_in_order cmp p xs)
 
 -- NUMBERS
-pub among_more : (a b : List ℕ) (number : ℕ) → is_among (a ++ b) number ≡ (is_among a number || is_among b number)
+pub among_more : (a b : List ℕ) (number : ℕ) → has_number (a ++ b) number ≡ (has_number a number || has_number b number)
 among_more a b number = list_any-append _ a b
 
 -- the numbers of the tunes that pass
 pub among_passed : (test : List ℕ → Bool) (tunes : List Tune) (number : ℕ)
-    → is_among (map (λ (row : IndexRow). row.number) (map row_of (filter (λ (tune : Tune). test tune.text) tunes))) number ≡ passes test tunes number
+    → has_number (map (λ (row : IndexRow). row.number) (map row_of (filter (λ (tune : Tune). test tune.text) tunes))) number ≡ passes test tunes number
 among_passed test tunes number =
     any_map (λ other. other == number) (λ (row : IndexRow). row.number) (map row_of (filter (λ (tune : Tune). test tune.text) tunes))
     ∙ any_map (λ (row : IndexRow). row.number == number) row_of (filter (λ (tune : Tune). test tune.text) tunes)
@@ -129,7 +129,8 @@ hits_all condition number (tune ∷ tunes) =
 
 -- the numbers of the rows of the index that have such a title
 pub among_titled : (condition : Condition) (tunes : List Tune) (number : ℕ)
-    → is_among (map (λ (row : IndexRow). row.number) (filter (has_row_title condition) (titled tunes))) number ≡ passes (has_some_title condition) tunes number
+    → has_number (map (λ (row : IndexRow). row.number) (filter (has_row_title condition) (titled tunes))) number
+    ≡ passes (has_some_title condition) tunes number
 among_titled condition tunes number =
     let hit : IndexRow → Bool = λ row. (row.number == number) && has_row_title condition row in
     any_map (λ other. other == number) (λ (row : IndexRow). row.number) (filter (has_row_title condition) (titled tunes))
@@ -168,7 +169,7 @@ passes_same one other (tune ∷ tunes) number h =
 
 -- EACH NUMBER STANDS ONCE
 -- numbers below those of the tunes pass no test
-none_below : (test : List ℕ → Bool) (low : ℕ) (tunes : List Tune) (number : ℕ) → RisesFrom low tunes → number ≤ low → passes test tunes number ≡ false
+none_below : (test : List ℕ → Bool) (low : ℕ) (tunes : List Tune) (number : ℕ) → NumbersRiseFrom low tunes → number ≤ low → passes test tunes number ≡ false
 none_below test low [] number rises le = refl
 none_below test low (tune ∷ tunes) number rises le =
     let apart : (tune.number == number) ≡ false = ne_eqb tune.number number (λ e. let l : low < tune.number = rises.0 in absurd (omega arith)) in
@@ -176,7 +177,7 @@ none_below test low (tune ∷ tunes) number rises le =
     rw apart (none_below test tune.number tunes number rises.1 (omega arith))
 
 -- all are above the bound
-all_above : (low : ℕ) (tunes : List Tune) → RisesFrom low tunes → AllByRecursion (λ (tune : Tune). low < tune.number) tunes
+all_above : (low : ℕ) (tunes : List Tune) → NumbersRiseFrom low tunes → AllByRecursion (λ (tune : Tune). low < tune.number) tunes
 all_above low [] rises = tt
 all_above low (tune ∷ tunes) rises = (rises.0, higher tune.number low rises.0 tunes (all_above tune.number tunes rises.1))
   where
@@ -193,7 +194,7 @@ own_later test first all (tune ∷ tunes) above own =
     let apart : (first.number == tune.number) ≡ false = ne_eqb first.number tune.number (λ e. let l = above.0 in absurd (omega arith)) in
     (rw apart own.0, own_later test first all tunes above.1 own.1)
 
-pub all_own : (test : List ℕ → Bool) (low : ℕ) (tunes : List Tune) → RisesFrom low tunes
+pub all_own : (test : List ℕ → Bool) (low : ℕ) (tunes : List Tune) → NumbersRiseFrom low tunes
     → AllByRecursion (λ (tune : Tune). passes test tunes tune.number ≡ test tune.text) tunes
 all_own test low [] rises = tt
 all_own test low (tune ∷ tunes) rises =
@@ -203,16 +204,16 @@ all_own test low (tune ∷ tunes) rises =
 
 -- the numbers that are given too are those of the tunes that pass both tests
 filter_both : (given : List ℕ) (was : Tune → Bool) (test : List ℕ → Bool) (tunes : List Tune)
-    → AllByRecursion (λ (tune : Tune). is_among given tune.number ≡ test tune.text) tunes
-    → filter (is_among given) (map (λ (tune : Tune). tune.number) (filter was tunes))
+    → AllByRecursion (λ (tune : Tune). has_number given tune.number ≡ test tune.text) tunes
+    → filter (has_number given) (map (λ (tune : Tune). tune.number) (filter was tunes))
     ≡ map (λ (tune : Tune). tune.number) (filter (λ tune. was tune && test tune.text) tunes)
 filter_both given was test [] own = refl
 filter_both given was test (tune ∷ tunes) own = by (filter_both given was test tunes own.1) (was tune) (test tune.text) refl refl
   where
-    by : filter (is_among given) (map (λ (tune : Tune). tune.number) (filter was tunes))
+    by : filter (has_number given) (map (λ (tune : Tune). tune.number) (filter was tunes))
         ≡ map (λ (tune : Tune). tune.number) (filter (λ tune. was tune && test tune.text) tunes)
         → (a b : Bool) → was tune ≡ a → test tune.text ≡ b
-        → filter (is_among given) (map (λ (tune : Tune). tune.number) (filter was (tune ∷ tunes)))
+        → filter (has_number given) (map (λ (tune : Tune). tune.number) (filter was (tune ∷ tunes)))
         ≡ map (λ (tune : Tune). tune.number) (filter (λ tune. was tune && test tune.text) (tune ∷ tunes))
     by rest true true e f =
         let there = own.0 ∙ f in
@@ -227,9 +228,9 @@ all_mapped P Q h [] all = tt
 all_mapped P Q h (x ∷ xs) all = (h x all.0, all_mapped P Q h xs all.1)
 
 -- the next condition
-pub found_more : (given : List ℕ) (was : Tune → Bool) (test : List ℕ → Bool) (tunes : List Tune) → RisesFrom 0 tunes
-    → ((number : ℕ) → is_among given number ≡ passes test tunes number)
-    → filter (is_among given) (map (λ (tune : Tune). tune.number) (filter was tunes))
+pub found_more : (given : List ℕ) (was : Tune → Bool) (test : List ℕ → Bool) (tunes : List Tune) → NumbersRiseFrom 0 tunes
+    → ((number : ℕ) → has_number given number ≡ passes test tunes number)
+    → filter (has_number given) (map (λ (tune : Tune). tune.number) (filter was tunes))
     ≡ map (λ (tune : Tune). tune.number) (filter (λ tune. was tune && test tune.text) tunes)
 found_more given was test tunes rises are =
     filter_both given was test tunes
@@ -246,7 +247,7 @@ filter_same p q h (x ∷ xs) = by (filter_same p q h xs) (q x) refl
 -- A SEARCH
 -- in numbers that do not fall a search tells whether one is among them
 pub search_tells : (numbers : List ℕ) (number : ℕ) (r : Result ℕ ℕ) → IsBinarySearchResult (λ other. nat_cmp other number) numbers r → IsNonDecreasing numbers
-    → is_ok r ≡ is_among numbers number
+    → is_ok r ≡ has_number numbers number
 search_tells numbers number (Ok i) h rise =
     let found = searched numbers number (Ok i) h (λ i j le l. rise i j 0 le l) in
     sym (list_any_at (λ other. other == number) numbers i 0 found.0 (eq-eqb (get_or numbers i 0) number found.1))

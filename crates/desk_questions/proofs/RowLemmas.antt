@@ -7,16 +7,16 @@ use Rattle.std.proofs.lemmas.List.{map-append, take_more, take_all, length-map}
 use Rattle.tune_books.specs.WrittenBooks.{written_tunes, written_tune, book_header}
 use Rattle.tune_store.specs.Labels.{labels_of, LabelsRise}
 use Rattle.tune_store.specs.Questions.{row_of, exported}
-use Rattle.tune_store.specs.State.{State, RisesFrom, tune_at}
+use Rattle.tune_store.specs.State.{State, NumbersRiseFrom, tune_at}
 use Rattle.tune_store.specs.declared.catalog.Label.{Label}
 use Rattle.tune_store.specs.declared.tune.Tune.{Tune}
 use Rattle.tune_store.specs.declared.index_rows.IndexRow.{IndexRow}
 use Rattle.tune_store.specs.declared.command.Refusal.{Refusal}
 use Rattle.tune_store.specs.declared.command.Refusal.TheVariants.{BadQuery}
 use Rattle.desk_terms.specs.declared.form.Form.{Form}
-use Rattle.desk_lists.specs.ListForms.{tune_list_bytes, count_bytes}
+use Rattle.desk_lists.specs.ListForms.{tune_list_bytes, count_line}
 use Rattle.desk_questions.specs.Conditions.{asks_nothing}
-use Rattle.desk_questions.specs.Told.{found, of_found, listed, chosen, tunes_at, as_told, shown_tunes}
+use Rattle.desk_questions.specs.Told.{found_by_all, of_found, listed_tunes, chosen, tunes_at, as_told, shown_tunes}
 use Rattle.desk_terms.specs.declared.condition.Condition.{Condition}
 use Rattle.tune_asking.specs.AskingCalls.{tune_told}
 use Rattle.desk_questions.specs.Inside.QuestionCalls.{AreFound, AreRowsAt, AreWritten}
@@ -85,13 +85,13 @@ same_ok a b r e f = let g : Ok a ≡ Ok b = sym e ∙ f in cc
 
 -- tunes that are found are the tunes of their numbers
 pub own_at : (conditions : List Condition) (labels : List Label) (state : State) → LabelsRise 0 labels → labels ≡ labels_of state.tunes
-    → AllByRecursion (λ (tune : Tune). tune_at tune.number state.tunes ≡ Some tune) (found conditions state)
+    → AllByRecursion (λ (tune : Tune). tune_at tune.number state.tunes ≡ Some tune) (found_by_all conditions state)
 own_at conditions labels state rise same =
     all_filter _ _ state.tunes (all_in 0 state.tunes (rises_of 0 state.tunes (subst (LabelsRise 0) same rise)))
 
 -- the rows of all that are found
 pub told_found : (as_told : List Tune → List ℕ) (conditions : List Condition) (state : State) → list_any asks_nothing conditions ≡ false
-    → of_found as_told conditions state ≡ Ok (as_told (found conditions state))
+    → of_found as_told conditions state ≡ Ok (as_told (found_by_all conditions state))
 told_found as_told conditions state asks = rw asks refl
 
 pub told_nothing : (as_told : List Tune → List ℕ) (conditions : List Condition) (state : State) → list_any asks_nothing conditions ≡ true
@@ -100,29 +100,29 @@ told_nothing as_told conditions state asks = rw asks refl
 
 pub rows_of_found : (conditions : List Condition) (labels : List Label) (state : State) (numbers : List ℕ) (rows : List IndexRow)
     → AreFound conditions labels state numbers → AreRowsAt numbers state rows → labels ≡ labels_of state.tunes
-    → rows ≡ map row_of (found conditions state)
+    → rows ≡ map row_of (found_by_all conditions state)
 rows_of_found conditions labels state numbers rows are at same =
     let rise = are.rise in
-    let own = at_own state.tunes (found conditions state) (own_at conditions labels state rise same) in
-    let numbers_own : tunes_at numbers state.tunes ≡ Ok (found conditions state) = ap (λ some. tunes_at some state.tunes) (are.are same) ∙ own in
-    at.are ∙ ap (map row_of) (same_ok at.tunes (found conditions state) (tunes_at numbers state.tunes) at.at numbers_own)
+    let own = at_own state.tunes (found_by_all conditions state) (own_at conditions labels state rise same) in
+    let numbers_own : tunes_at numbers state.tunes ≡ Ok (found_by_all conditions state) = ap (λ some. tunes_at some state.tunes) (are.are same) ∙ own in
+    at.are ∙ ap (map row_of) (same_ok at.tunes (found_by_all conditions state) (tunes_at numbers state.tunes) at.at numbers_own)
 
 -- so they are never refused
 pub never_refused : (conditions : List Condition) (labels : List Label) (state : State) (numbers : List ℕ) (refusal : Refusal)
     → AreFound conditions labels state numbers → tunes_at numbers state.tunes ≡ Err refusal → labels ≡ labels_of state.tunes → ⊥
 never_refused conditions labels state numbers refusal are refused same =
-    let own = at_own state.tunes (found conditions state) (own_at conditions labels state are.rise same) in
-    let held : tunes_at numbers state.tunes ≡ Ok (found conditions state) = ap (λ some. tunes_at some state.tunes) (are.are same) ∙ own in
+    let own = at_own state.tunes (found_by_all conditions state) (own_at conditions labels state are.rise same) in
+    let held : tunes_at numbers state.tunes ≡ Ok (found_by_all conditions state) = ap (λ some. tunes_at some state.tunes) (are.are same) ∙ own in
     cc
 
 -- the row of one of them
 pub rows_of_chosen : (conditions : List Condition) (labels : List Label) (state : State) (numbers : List ℕ) (chance : ℕ) (rows : List IndexRow)
     → AreFound conditions labels state numbers
     → AreRowsAt (take 1 (drop (chance % length numbers) numbers)) state rows → labels ≡ labels_of state.tunes
-    → rows ≡ map row_of (chosen chance (found conditions state))
+    → rows ≡ map row_of (chosen chance (found_by_all conditions state))
 rows_of_chosen conditions labels state numbers chance rows are at same =
     let rise = are.rise in
-    let all = found conditions state in
+    let all = found_by_all conditions state in
     let number : Tune → ℕ = λ tune. tune.number in
     let long : length numbers ≡ length all = ap length (are.are same) ∙ length-map all number in
     let one = chosen chance all in
@@ -137,7 +137,7 @@ pub chosen_never_refused : (conditions : List Condition) (labels : List Label) (
     → AreFound conditions labels state numbers → tunes_at (take 1 (drop (chance % length numbers) numbers)) state.tunes ≡ Err refusal
     → labels ≡ labels_of state.tunes → ⊥
 chosen_never_refused conditions labels state numbers chance refusal are refused same =
-    let all = found conditions state in
+    let all = found_by_all conditions state in
     let number : Tune → ℕ = λ tune. tune.number in
     let at = chance % length numbers in
     let numbers_one : take 1 (drop at numbers) ≡ map number (take 1 (drop at all)) =

@@ -5,11 +5,11 @@ use Rattle.std.specs.Prelude.{◌==◌, filter, ◌%◌}
 use Rattle.std.specs.List.{AllByRecursion}
 use Rattle.std.proofs.lemmas.Bool.{eq-eqb, ne_eqb}
 use Rattle.tune_books.specs.WrittenBooks.{written_tunes, written_tune}
-use Rattle.tune_store.specs.State.{RisesFrom, tune_at}
+use Rattle.tune_store.specs.State.{NumbersRiseFrom, tune_at}
 use Rattle.tune_store.specs.declared.tune.Tune.{Tune}
 use Rattle.tune_store.specs.declared.command.Refusal.{Refusal}
 use Rattle.tune_store.specs.declared.command.Refusal.TheVariants.{Unknown}
-use Rattle.desk_questions.specs.Told.{tunes_at, with_more}
+use Rattle.desk_questions.specs.Told.{tunes_at, tune_with_more}
 use Rattle.tune_asking.specs.AskingCalls.{tune_or}
 
 -- ONE NUMBER MORE
@@ -31,14 +31,14 @@ at_more (first ∷ numbers) number tunes found tune e has =
     by : ((more : List Tune) → tunes_at numbers tunes ≡ Ok more → tunes_at (numbers ++ number ∷ []) tunes ≡ Ok (more ++ tune ∷ [])) → (there : Option Tune)
         (later : Result (List Tune) Refusal) → tune_at first tunes ≡ there → tunes_at numbers tunes ≡ later
         → tunes_at ((first ∷ numbers) ++ number ∷ []) tunes ≡ Ok (found ++ tune ∷ [])
-    by rest None later none are = absurd (let f : with_more first None (tunes_at numbers tunes) ≡ Ok found = subst
-        (λ o. with_more first o (tunes_at numbers tunes) ≡ Ok found) none e in cc)
+    by rest None later none are = absurd (let f : tune_with_more first None (tunes_at numbers tunes) ≡ Ok found = subst
+        (λ o. tune_with_more first o (tunes_at numbers tunes) ≡ Ok found) none e in cc)
     by rest (Some one) (Err refusal) some are =
-        absurd (let f : with_more first (Some one) (Err refusal) ≡ Ok found = subst (λ r. with_more first (Some one) r ≡ Ok found) are
-        (subst (λ o. with_more first o (tunes_at numbers tunes) ≡ Ok found) some e) in cc)
+        absurd (let f : tune_with_more first (Some one) (Err refusal) ≡ Ok found = subst (λ r. tune_with_more first (Some one) r ≡ Ok found) are
+        (subst (λ o. tune_with_more first o (tunes_at numbers tunes) ≡ Ok found) some e) in cc)
     by rest (Some one) (Ok more) some are =
-        let f : with_more first (Some one) (Ok more) ≡ Ok found = subst (λ r. with_more first (Some one) r ≡ Ok found) are
-        (subst (λ o. with_more first o (tunes_at numbers tunes) ≡ Ok found) some e) in
+        let f : tune_with_more first (Some one) (Ok more) ≡ Ok found = subst (λ r. tune_with_more first (Some one) r ≡ Ok found) are
+        (subst (λ o. tune_with_more first o (tunes_at numbers tunes) ≡ Ok found) some e) in
         let whole : one ∷ more ≡ found = cc in
         rw (some, rest more are, ← whole) refl
 
@@ -59,11 +59,11 @@ at_none (first ∷ numbers) number rest tunes found refusal e has =
     by : ((more : List Tune) → tunes_at numbers tunes ≡ Ok more → tunes_at (numbers ++ number ∷ rest) tunes ≡ Err refusal) → (there : Option Tune)
         (later : Result (List Tune) Refusal) → tune_at first tunes ≡ there → tunes_at numbers tunes ≡ later
         → tunes_at ((first ∷ numbers) ++ number ∷ rest) tunes ≡ Err refusal
-    by later_none None later none are = absurd (let f : with_more first None (tunes_at numbers tunes) ≡ Ok found = subst
-        (λ o. with_more first o (tunes_at numbers tunes) ≡ Ok found) none e in cc)
+    by later_none None later none are = absurd (let f : tune_with_more first None (tunes_at numbers tunes) ≡ Ok found = subst
+        (λ o. tune_with_more first o (tunes_at numbers tunes) ≡ Ok found) none e in cc)
     by later_none (Some one) (Err other) some are =
-        absurd (let f : with_more first (Some one) (Err other) ≡ Ok found = subst (λ r. with_more first (Some one) r ≡ Ok found) are
-        (subst (λ o. with_more first o (tunes_at numbers tunes) ≡ Ok found) some e) in cc)
+        absurd (let f : tune_with_more first (Some one) (Err other) ≡ Ok found = subst (λ r. tune_with_more first (Some one) r ≡ Ok found) are
+        (subst (λ o. tune_with_more first o (tunes_at numbers tunes) ≡ Ok found) some e) in cc)
     by later_none (Some one) (Ok more) some are = rw (some, later_none more are) refl
 
 -- TUNES OF THE LIST
@@ -74,7 +74,7 @@ pub at_own : (all tunes : List Tune) → AllByRecursion (λ (tune : Tune). tune_
 at_own all [] own = refl
 at_own all (tune ∷ tunes) own = rw (own.0, at_own all tunes own.1) refl
 
-in_later : (first : Tune) (all tunes : List Tune) (low : ℕ) → first.number ≤ low → RisesFrom low tunes
+in_later : (first : Tune) (all tunes : List Tune) (low : ℕ) → first.number ≤ low → NumbersRiseFrom low tunes
     → AllByRecursion (λ (tune : Tune). tune_at tune.number all ≡ Some tune) tunes
     → AllByRecursion (λ (tune : Tune). tune_at tune.number (first ∷ all) ≡ Some tune) tunes
 in_later first all [] low le rises own = tt
@@ -84,7 +84,7 @@ in_later first all (tune ∷ tunes) low le rises own =
     (rw apart own.0, in_later first all tunes tune.number (omega arith) rises.1 own.1)
 
 -- where numbers rise all tunes of the list stand so
-pub all_in : (low : ℕ) (tunes : List Tune) → RisesFrom low tunes → AllByRecursion (λ (tune : Tune). tune_at tune.number tunes ≡ Some tune) tunes
+pub all_in : (low : ℕ) (tunes : List Tune) → NumbersRiseFrom low tunes → AllByRecursion (λ (tune : Tune). tune_at tune.number tunes ≡ Some tune) tunes
 all_in low [] rises = tt
 all_in low (tune ∷ tunes) rises =
     let own : (tune.number == tune.number) ≡ true = eq-eqb tune.number tune.number refl in

@@ -9,7 +9,7 @@ use Rattle.tune_queries.specs.declared.queries.Query.{Query}
 use Rattle.tune_queries.specs.declared.queries.Query.TheVariants as query
 use Rattle.tune_titles.specs.Titles.{index_title, sorting_title}
 use Rattle.desk_lists.specs.Folding.{folded_title}
-use Rattle.desk_lists.specs.FoldedWords.{begins, all_stand_in, folded_words}
+use Rattle.desk_lists.specs.FoldedWords.{begins_with_word, all_stand_in, folded_words}
 use Rattle.desk_terms.specs.declared.condition.Condition.{Condition}
 use Rattle.desk_terms.specs.declared.condition.Condition.TheVariants.{Title, Within, Rhythm}
 use Rattle.desk_terms.specs.declared.condition.Condition.TheVariants.{Key, Notes}
@@ -23,8 +23,8 @@ signatures =
     ∷ codes "C#" ∷ []
 
 -- the query for notes as they are printed in a key
-abbrev pub notes_in : List ℕ → List ℕ → Query
-notes_in key notes = query.Notes (codes "[K:" ++ key ++ codes "]" ++ notes)
+abbrev pub notes_query : List ℕ → List ℕ → Query
+notes_query key notes = query.Notes (codes "[K:" ++ key ++ codes "]" ++ notes)
 
 -- the queries of which one has to match
 abbrev pub queries_of : Condition → List Query
@@ -32,15 +32,15 @@ queries_of (Title words) = query.Title (string_bytes words) ∷ []
 queries_of (Within words) = []
 queries_of (Rhythm rhythm) = query.Rhythm (string_bytes rhythm) ∷ []
 queries_of (Key key) = query.Key (string_bytes key) ∷ []
-queries_of (Notes notes None) = map (λ key. notes_in key (string_bytes notes)) signatures
-queries_of (Notes notes (Some key)) = notes_in (string_bytes key) (string_bytes notes) ∷ []
+queries_of (Notes notes None) = map (λ key. notes_query key (string_bytes notes)) signatures
+queries_of (Notes notes (Some key)) = notes_query (string_bytes key) (string_bytes notes) ∷ []
 
 -- BY TITLES, WITHOUT ACCENTS AND CAPITALS
 -- a title, as an index shows it, that begins with the words without their article; one in which
 -- each of the words stands
 abbrev pub has_title : Condition → List ℕ → Bool
 has_title (Title words) title =
-    begins (folded_title (sorting_title (string_bytes words))) (folded_title title)
+    begins_with_word (folded_title (sorting_title (string_bytes words))) (folded_title title)
 has_title (Within words) title = all_stand_in (folded_words words.items) (folded_title title)
 has_title condition title = false
 
@@ -52,15 +52,15 @@ gives notes condition text = list_any (λ query. matches notes query text) (quer
 
 -- WHAT ASKS FOR NOTHING
 -- the text of a query
-abbrev pub text_of : Query → List ℕ
-text_of (query.Title text) = text
-text_of (query.Rhythm text) = text
-text_of (query.Key text) = text
-text_of (query.Notes text) = text
+abbrev pub query_text : Query → List ℕ
+query_text (query.Title text) = text
+query_text (query.Rhythm text) = text
+query_text (query.Key text) = text
+query_text (query.Notes text) = text
 
 -- whether a query has more bytes than one may have
-abbrev pub is_too_long : Query → Bool
-is_too_long query = nat_lt longest_query (length (text_of query))
+abbrev pub is_query_too_long : Query → Bool
+is_query_too_long query = nat_lt longest_query (length (query_text query))
 
 -- whether a condition is for words of which none has a byte
 abbrev pub has_no_words : Condition → Bool
@@ -72,4 +72,4 @@ has_no_words condition = false
 abbrev pub asks_nothing : Condition → Bool
 asks_nothing condition =
     has_no_words condition
-    || list_any (λ query. is_too_long query || is_bad query) (queries_of condition)
+    || list_any (λ query. is_query_too_long query || is_bad query) (queries_of condition)

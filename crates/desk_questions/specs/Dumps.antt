@@ -34,30 +34,30 @@ imported (byte ∷ book) = Import (byte ∷ book) ∷ []
 -- The commands for a piece that was begun, and for the tunes after it; `last` is the number of the
 -- tune before these, or 0. After a gap a tune goes in alone, and is given its number. Any other
 -- goes in with the piece, or begins the next where the piece is full.
-abbrev pub tune_commands : ℕ → List Tune → List Tune → List Command
-tune_commands last piece [] = imported (book_of piece)
-tune_commands last piece (tune ∷ tunes) =
+abbrev pub tune_dump_commands : ℕ → List Tune → List Tune → List Command
+tune_dump_commands last piece [] = imported (book_of piece)
+tune_dump_commands last piece (tune ∷ tunes) =
     if tune.number == last + 1 then
     if nat_lt piece_size (length (book_of piece))
-    then imported (book_of piece) ++ tune_commands tune.number (tune ∷ []) tunes
-    else tune_commands tune.number (piece ++ tune ∷ []) tunes
+    then imported (book_of piece) ++ tune_dump_commands tune.number (tune ∷ []) tunes
+    else tune_dump_commands tune.number (piece ++ tune ∷ []) tunes
     else imported (book_of piece) ++ (Import (exported (tune ∷ []))
-    ∷ Renumber (last + 1) tune.number ∷ tune_commands tune.number [] tunes)
+    ∷ Renumber (last + 1) tune.number ∷ tune_dump_commands tune.number [] tunes)
 
 -- SET LISTS
 -- a set list of this name, and the numbers at its places; none where there is none
-abbrev pub set_commands : List ℕ → Result (List ℕ) SetFault → List Command
-set_commands name (Ok numbers) = SetNew name ∷ map (SetAdd name) numbers
-set_commands name (Err why) = []
+abbrev pub set_dump_commands : List ℕ → Result (List ℕ) SetFault → List Command
+set_dump_commands name (Ok numbers) = SetNew name ∷ map (SetAdd name) numbers
+set_dump_commands name (Err why) = []
 
 -- each set list, with its places
 abbrev pub sets_commands : List TuneSet → List Command
-sets_commands sets = flat_map (λ set. set_commands set.name (places_of set.name sets)) sets
+sets_commands sets = flat_map (λ set. set_dump_commands set.name (places_of set.name sets)) sets
 
 -- THE WHOLE
 -- the tunes by number, and then the set lists by name
 abbrev pub dump_commands : State → List Command
-dump_commands state = tune_commands 0 [] state.tunes ++ sets_commands state.sets
+dump_commands state = tune_dump_commands 0 [] state.tunes ++ sets_commands state.sets
 
 -- a command as a script has it (docs/SCRIPTS.md), of those that a dump has
 abbrev pub command_bytes : Command → List ℕ
@@ -75,16 +75,16 @@ script_bytes commands = flat_map command_bytes commands
 
 -- WHAT IT MAKES
 -- from one state to another by these commands, none of which is refused
-abbrev pub LeadsTo : State → List Command → State → Type 0
-LeadsTo old [] new = old ≡ new
-LeadsTo old (command ∷ commands) new =
-    IsTrue (accepts old command) × LeadsTo (step old command).0 commands new
+abbrev pub LeadsUnrefused : State → List Command → State → Type 0
+LeadsUnrefused old [] new = old ≡ new
+LeadsUnrefused old (command ∷ commands) new =
+    IsTrue (accepts old command) × LeadsUnrefused (step old command).0 commands new
 
 -- a tune as it is after its import
-abbrev pub anew : Tune → Tune
-anew tune = record tune { revision = 1 }
+abbrev pub imported_tune : Tune → Tune
+imported_tune tune = record tune { revision = 1 }
 
 -- the tunes, each anew, and the set lists, in layout 2
 abbrev pub made_anew : State → State
 made_anew state =
-    record { layout = Two; tunes = map anew state.tunes; sets = state.sets }
+    record { layout = Two; tunes = map imported_tune state.tunes; sets = state.sets }

@@ -16,7 +16,7 @@ use Rattle.tune_store.specs.declared.command.Refusal.TheVariants.{Unknown, BadQu
 use Rattle.desk_terms.specs.declared.form.Form.{Form}
 use Rattle.desk_terms.specs.declared.form.Form.TheVariants.{Rows}
 use Rattle.desk_lists.specs.ListForms.{tune_list_bytes, place_list_bytes, set_list_bytes}
-use Rattle.desk_lists.specs.ListForms.{count_bytes}
+use Rattle.desk_lists.specs.ListForms.{count_line}
 use Rattle.desk_lists.specs.Twins.{twin_list_bytes}
 use Rattle.desk_questions.specs.Conditions.{gives, asks_nothing}
 use Rattle.desk_questions.specs.SameTunes.{twins}
@@ -30,8 +30,8 @@ use Rattle.desk_terms.specs.declared.question.Question.TheVariants.{Twins, Dump}
 
 -- BY CONDITIONS
 -- the tunes that all of these conditions give, by number
-abbrev pub found : List Condition → State → List Tune
-found conditions state = filter
+abbrev pub found_by_all : List Condition → State → List Tune
+found_by_all conditions state = filter
     (λ tune. list_all (λ condition. gives (notes_of state.layout) condition tune.text) conditions)
     state.tunes
 
@@ -39,11 +39,11 @@ found conditions state = filter
 abbrev pub of_found : (List Tune → List ℕ) → List Condition → State → Result (List ℕ) Refusal
 of_found as_told conditions state =
     if list_any asks_nothing conditions then Err BadQuery
-    else Ok (as_told (found conditions state))
+    else Ok (as_told (found_by_all conditions state))
 
 -- the rows of tunes
-abbrev pub listed : Form → List Tune → List ℕ
-listed form tunes = tune_list_bytes form (map row_of tunes)
+abbrev pub listed_tunes : Form → List Tune → List ℕ
+listed_tunes form tunes = tune_list_bytes form (map row_of tunes)
 
 -- the one at the place that remains of a number by their count; none of none
 abbrev pub chosen : ℕ → List Tune → List Tune
@@ -51,16 +51,17 @@ chosen chance tunes = take 1 (drop (chance % length tunes) tunes)
 
 -- BY NUMBERS
 -- a tune before more
-abbrev pub with_more : ℕ → Option Tune → Result (List Tune) Refusal → Result (List Tune) Refusal
-with_more number None more = Err (Unknown number)
-with_more number (Some tune) (Ok tunes) = Ok (tune ∷ tunes)
-with_more number (Some tune) (Err refusal) = Err refusal
+abbrev pub tune_with_more : ℕ → Option Tune → Result (List Tune) Refusal
+    → Result (List Tune) Refusal
+tune_with_more number None more = Err (Unknown number)
+tune_with_more number (Some tune) (Ok tunes) = Ok (tune ∷ tunes)
+tune_with_more number (Some tune) (Err refusal) = Err refusal
 
 -- the tunes of these numbers, in this order; the first that no tune has is refused
 abbrev pub tunes_at : List ℕ → List Tune → Result (List Tune) Refusal
 tunes_at [] tunes = Ok []
 tunes_at (number ∷ numbers) tunes =
-    with_more number (tune_at number tunes) (tunes_at numbers tunes)
+    tune_with_more number (tune_at number tunes) (tunes_at numbers tunes)
 
 -- what is accepted, as it is told
 abbrev pub as_told : {A : Type 0} → (A → List ℕ) → Result A Refusal → Result (List ℕ) Refusal
@@ -83,11 +84,11 @@ reply_told form other = []
 
 -- QUESTIONS
 abbrev pub told : Question → State → Result (List ℕ) Refusal
-told (Find conditions form) state = of_found (listed form) conditions.items state
+told (Find conditions form) state = of_found (listed_tunes form) conditions.items state
 told (Count conditions) state = of_found
-    (λ tunes. count_bytes (length tunes)) conditions.items state
+    (λ tunes. count_line (length tunes)) conditions.items state
 told (Random conditions chance form) state =
-    of_found (λ tunes. listed form (chosen chance tunes)) conditions.items state
+    of_found (λ tunes. listed_tunes form (chosen chance tunes)) conditions.items state
 told (Titles form) state = as_told (reply_told form) (step state command.Titles).1
 told (Sets form) state = as_told (reply_told form) (step state command.Sets).1
 told (Set name form) state =

@@ -2,9 +2,10 @@
 ghost use Rattle.std.specs.Prelude.{◌≡◌, ◌∷◌, [], map, not, IfOk, MatchResult, string_bytes};
 ghost use Rattle.std.specs.List.{list_all};
 ghost use Rattle.abc_fields.specs.Fields.{has_bytes};
-ghost use Rattle.desk_questions.specs.Conditions.{notes_in, queries_of, has_title, has_no_words};
-ghost use Rattle.desk_questions.specs.Conditions.{signatures, is_too_long};
-ghost use Rattle.desk_questions.specs.Inside.SoughtWords.{words_of, looks_at_titles, MakesQuery};
+ghost use Rattle.desk_questions.specs.Conditions.{notes_query, queries_of, has_title, has_no_words};
+ghost use Rattle.desk_questions.specs.Conditions.{signatures, is_query_too_long};
+ghost use Rattle.desk_questions.specs.Inside.SoughtWords.{words_sought, looks_at_titles};
+ghost use Rattle.desk_questions.specs.Inside.SoughtWords.{MakesQuery};
 ghost use Rattle.desk_questions.specs.Inside.SoughtWords.{MakesText, AreMade, AreNotMade};
 
 use abc_fields::ByteText;
@@ -33,7 +34,7 @@ fn text_of_query(alloc: Global, bytes: &[u8]) -> Result<QueryText, Refusal>
 
 // The query for notes in a key.
 fn notes_in(alloc: Global, key: &[u8], notes: &[u8]) -> Result<Query, Refusal>
-    ensures { MakesQuery (notes_in key.now notes.now) result }
+    ensures { MakesQuery (notes_query key.now notes.now) result }
 {
     let mut line = Vec::from_slice(alloc, b"[K:")?;
     line.extend_from_slice(key)?;
@@ -53,7 +54,7 @@ fn only(alloc: Global, query: Query) -> Result<Vec<Query>, AllocError>
 
 // The queries for notes in each of these keys.
 fn notes_as_printed(alloc: Global, notes: &[u8]) -> Result<Vec<Query>, Refusal>
-    ensures { let queries = map (λ key. notes_in key notes.now) signatures in
+    ensures { let queries = map (λ key. notes_query key notes.now) signatures in
         MatchResult result (λ made. AreMade queries made.items) (AreNotMade queries) }
 {
     let mut queries = Vec::new(alloc);
@@ -127,7 +128,7 @@ pub(crate) fn looks_at_titles(condition: &Condition) -> bool
 
 // The words that are looked for in titles.
 pub(crate) fn words_of(alloc: Global, condition: &Condition) -> Result<FoldedWords, AllocError>
-    ensures { IfOk result (λ words. words ≡ words_of condition.now) }
+    ensures { IfOk result (λ words. words ≡ words_sought condition.now) }
 {
     match condition {
         Condition::Title(words) => {
@@ -147,7 +148,7 @@ pub(crate) fn has_title(
     words: &FoldedWords,
     title: &[u8],
 ) -> Result<bool, AllocError>
-    requires { words.now ≡ words_of condition.now }
+    requires { words.now ≡ words_sought condition.now }
     ensures { IfOk result (λ has. has ≡ has_title condition.now title.now) }
 {
     match condition {

@@ -1,14 +1,14 @@
 // Tells a script that makes all tunes and set lists anew.
 ghost use Rattle.std.specs.Prelude.{◌≡◌, ◌≢◌, ℕ, ◌+◌, ◌++◌, ◌∷◌, [], List, map, Ok, OnOk};
-ghost use Rattle.tune_sets.specs.Calls.{rows_of};
+ghost use Rattle.tune_sets.specs.Calls.{set_rows_of};
 ghost use Rattle.tune_store.specs.declared.tune.Tune.{Tune};
 ghost use Rattle.tune_store.specs.declared.command.Command.TheVariants.{Renumber};
 ghost use Rattle.tune_store.specs.declared.command.Command.TheVariants.{SetNew, SetAdd};
-ghost use Rattle.desk_questions.specs.Dumps.{book_of, imported, set_commands};
+ghost use Rattle.desk_questions.specs.Dumps.{book_of, imported, set_dump_commands};
 ghost use Rattle.desk_questions.specs.Dumps.{dump_commands, command_bytes};
 ghost use Rattle.desk_questions.specs.Dumps.{script_bytes};
 ghost use Rattle.tune_asking.specs.AskingCalls.{Call, told_by, told_where};
-ghost use Rattle.desk_questions.specs.Inside.DumpCalls.{GoesOn, places_told};
+ghost use Rattle.desk_questions.specs.Inside.DumpCalls.{BringsEach, places_told};
 ghost use Rattle.desk_questions.specs.Inside.DumpCalls.{tunes_dumped, set_dumped};
 ghost use Rattle.desk_questions.specs.Inside.DumpCalls.{each_dumped, sets_dumped};
 
@@ -66,7 +66,7 @@ fn put_tune(
     last: u32,
     tune: &Tune,
 ) -> Result<(), AllocError>
-    ensures { OnOk result (GoesOn last tune.now piece.old.items piece.new.items script.old.items
+    ensures { OnOk result (BringsEach last tune.now piece.old.items piece.new.items script.old.items
         script.new.items) }
 {
     let next = u64::from(last) + 1;
@@ -79,7 +79,7 @@ fn put_tune(
 
 // A tune without a gap before it goes in with the piece, or begins the next where that is full.
 fn put_next(script: &mut Vec<u8>, piece: &mut Vec<u8>, tune: &Tune) -> Result<(), AllocError>
-    ensures { OnOk result ((last : ℕ) → tune.now.number ≡ last + 1 → GoesOn last tune.now
+    ensures { OnOk result ((last : ℕ) → tune.now.number ≡ last + 1 → BringsEach last tune.now
         piece.old.items piece.new.items script.old.items script.new.items) }
 {
     if piece.len() <= PIECE_SIZE {
@@ -96,7 +96,7 @@ fn put_alone(
     next: u64,
     tune: &Tune,
 ) -> Result<(), AllocError>
-    ensures { OnOk result ((last : ℕ) → next ≡ last + 1 → tune.now.number ≢ next → GoesOn last
+    ensures { OnOk result ((last : ℕ) → next ≡ last + 1 → tune.now.number ≢ next → BringsEach last
         tune.now piece.old.items piece.new.items script.old.items script.new.items) }
 {
     put_piece(script, piece)?;
@@ -174,7 +174,7 @@ fn dump_each<S: TuneStore>(
 // A row for each set list.
 fn all_sets<S: TuneStore>(store: &mut S) -> Result<SetRowList, Refusal>
     ensures { Call S.TuneStore store.old store.new
-        (told_by (λ state. Ok (rows_of state.sets))) result }
+        (told_by (λ state. Ok (set_rows_of state.sets))) result }
 {
     match ask(store, &Command::Sets)? {
         Reply::Sets(rows) => Ok(rows),
@@ -210,7 +210,7 @@ fn places<S: TuneStore>(alloc: Global, store: &mut S, name: &SetName) -> Result<
 // Writes the commands for a set list with these places.
 fn put_set(script: &mut Vec<u8>, name: &SetName, rows: &[IndexRow]) -> Result<(), AllocError>
     ensures { OnOk result (script.new.items ≡ script.old.items ++ script_bytes
-        (set_commands name.now (Ok (map (λ row. row.number) rows.now)))) }
+        (set_dump_commands name.now (Ok (map (λ row. row.number) rows.now)))) }
 {
     put_new(script, name)?;
     for row in rows {

@@ -2,12 +2,13 @@
 ghost use Rattle.std.specs.Prelude.{◌≡◌, ◌++◌, map, filter, true, IfOk, OnOk};
 ghost use Rattle.tune_asking.specs.AskingCalls.{Call};
 ghost use Rattle.desk_questions.specs.Inside.QuestionCalls.{added_by_query, added_by_title};
-ghost use Rattle.desk_questions.specs.Inside.QuestionCalls.{AreGiven, AreFound, RefusesNothing};
+ghost use Rattle.desk_questions.specs.Inside.QuestionCalls.{AreNumbersGiven, AreFound};
+ghost use Rattle.desk_questions.specs.Inside.QuestionCalls.{RefusesNothing};
 ghost use Rattle.std.specs.List.{list_any};
 ghost use Rattle.tune_queries.specs.Queries.{is_bad};
 ghost use Rattle.desk_questions.specs.Conditions.{asks_nothing};
 ghost use Rattle.desk_questions.specs.Inside.QuestionCalls.{has_row_title, AreFoundBySome};
-ghost use Rattle.desk_questions.specs.Inside.SoughtWords.{words_of};
+ghost use Rattle.desk_questions.specs.Inside.SoughtWords.{words_sought};
 
 use crate::conditions::{has_no_words, has_title, looks_at_titles, queries_of, words_of};
 use crate::numbers::{add_numbers, in_both};
@@ -41,7 +42,7 @@ fn add_titled(
     condition: &Condition,
     words: &FoldedWords,
 ) -> Result<(), AllocError>
-    requires { words.now ≡ words_of condition.now }
+    requires { words.now ≡ words_sought condition.now }
     ensures { OnOk result (numbers.new.items ≡ numbers.old.items
         ++ map (λ row. row.number) (filter (has_row_title condition.now) rows.now)) }
 {
@@ -60,7 +61,7 @@ fn has_row_title(
     condition: &Condition,
     words: &FoldedWords,
 ) -> Result<bool, AllocError>
-    requires { words.now ≡ words_of condition.now }
+    requires { words.now ≡ words_sought condition.now }
     ensures { IfOk result (λ has. has ≡ has_row_title condition.now row.now) }
 {
     match &row.title {
@@ -115,7 +116,7 @@ fn given<S: TuneStore>(
     condition: &Condition,
 ) -> Result<Vec<u32>, Refusal>
     ensures { Call S.TuneStore store.old store.new (record {
-      good = λ state numbers. AreGiven condition.now state numbers.items;
+      good = λ state numbers. AreNumbersGiven condition.now state numbers.items;
       refused = λ state refusal. (asks_nothing condition.now ≡ true)
           × (refusal ≡ Refusal.BadQuery);
     }) result }

@@ -1,7 +1,7 @@
 // Lists of numbers of tunes.
 ghost use Rattle.std.specs.Prelude.{◌≡◌, ◌++◌, map, filter, take, drop, ◌%◌, length, IfOk, OnOk};
 ghost use Rattle.std.specs.List.Sorted.{IsNonDecreasing};
-ghost use Rattle.desk_questions.specs.Inside.QuestionCalls.{is_among};
+ghost use Rattle.desk_questions.specs.Inside.QuestionCalls.{has_number};
 
 use std::alloc::{AllocError, Global};
 use tune_store::IndexRow;
@@ -9,7 +9,7 @@ use tune_store::IndexRow;
 // Whether a number is among these, which do not fall.
 fn is_among(numbers: &[u32], number: u32) -> bool
     requires { IsNonDecreasing numbers.now }
-    ensures { result ≡ is_among numbers.now number }
+    ensures { result ≡ has_number numbers.now number }
 {
     numbers.binary_search(&number).is_ok()
 }
@@ -20,7 +20,7 @@ pub(crate) fn in_both(
     numbers: &[u32],
     given: Vec<u32>,
 ) -> Result<Vec<u32>, AllocError>
-    ensures { IfOk result (λ both. both.items ≡ filter (is_among given.items) numbers.now) }
+    ensures { IfOk result (λ both. both.items ≡ filter (has_number given.items) numbers.now) }
 {
     let mut sorted = given;
     sorted.sort()?;
@@ -30,7 +30,7 @@ pub(crate) fn in_both(
 // Those of the numbers that are among the given ones, which do not fall.
 fn in_rising(alloc: Global, numbers: &[u32], given: &[u32]) -> Result<Vec<u32>, AllocError>
     requires { IsNonDecreasing given.now }
-    ensures { IfOk result (λ both. both.items ≡ filter (is_among given.now) numbers.now) }
+    ensures { IfOk result (λ both. both.items ≡ filter (has_number given.now) numbers.now) }
 {
     let mut both = Vec::new(alloc);
     for number in numbers {

@@ -5,9 +5,10 @@ ghost use Rattle.tune_store.specs.Answers.{asks};
 ghost use Rattle.tune_store.specs.Labels.{labels_of};
 ghost use Rattle.tune_store.specs.Questions.{exported};
 ghost use Rattle.tune_store.specs.Step.{step};
-ghost use Rattle.desk_lists.specs.ListForms.{count_bytes, tune_list_bytes};
+ghost use Rattle.desk_lists.specs.ListForms.{count_line, tune_list_bytes};
 ghost use Rattle.tune_asking.specs.Asking.{IsOnlyAsked, IsToldOrFault};
-ghost use Rattle.desk_questions.specs.Told.{told, of_found, listed, chosen, as_told, tunes_at};
+ghost use Rattle.desk_questions.specs.Told.{told, of_found, listed_tunes, chosen, as_told};
+ghost use Rattle.desk_questions.specs.Told.{tunes_at};
 ghost use Rattle.desk_questions.specs.Told.{shown_tunes, reply_told};
 ghost use Rattle.tune_asking.specs.AskingCalls.{Call, told_by, told_where};
 ghost use Rattle.desk_questions.specs.Inside.QuestionCalls.{AreRowsAt};
@@ -135,7 +136,7 @@ fn find<S: TuneStore + Catalog>(
     form: Form,
 ) -> Result<ByteText, Refusal>
     ensures { Call S.TuneStore store.old store.new (told_where (S.Catalog.labels store.old)
-        (of_found (listed form) conditions.now)) result }
+        (of_found (listed_tunes form) conditions.now)) result }
 {
     let numbers = found(alloc, store, conditions)?;
     let rows = rows_at(alloc, store, numbers.as_slice())?;
@@ -149,7 +150,7 @@ fn count<S: TuneStore + Catalog>(
     conditions: &[Condition],
 ) -> Result<ByteText, Refusal>
     ensures { Call S.TuneStore store.old store.new (told_where (S.Catalog.labels store.old)
-        (of_found (λ tunes. count_bytes (length tunes)) conditions.now)) result }
+        (of_found (λ tunes. count_line (length tunes)) conditions.now)) result }
 {
     let numbers = found(alloc, store, conditions)?;
     Ok(count_line(alloc, numbers.len() as u64)?)
@@ -164,7 +165,7 @@ fn random<S: TuneStore + Catalog>(
     form: Form,
 ) -> Result<ByteText, Refusal>
     ensures { Call S.TuneStore store.old store.new (told_where (S.Catalog.labels store.old)
-        (of_found (λ tunes. listed form (chosen chance tunes)) conditions.now)) result }
+        (of_found (λ tunes. listed_tunes form (chosen chance tunes)) conditions.now)) result }
 {
     let numbers = found(alloc, store, conditions)?;
     let rows = rows_at(alloc, store, chosen(numbers.as_slice(), chance))?;

@@ -6,7 +6,7 @@ use Rattle.tune_disk.specs.declared.file.Access.{Access}
 use Rattle.tune_disk.specs.declared.file.Access.TheVariants.{Read, Change}
 use Rattle.tune_store.specs.State.{State}
 use Rattle.tune_desk.specs.DeskDeeds.{DeskDeed, ChangesNothing}
-use Rattle.tune_desk.specs.Results.{Places, SparesFiles, IsReading, places_of}
+use Rattle.tune_desk.specs.Results.{Places, SparesFiles, IsReading, result_places}
 use Rattle.tune_desk.proofs.SpareLemmas.{spares_none, spares_reading, spares_both, quiet_all}
 use Rattle.desk_scenes.specs.FileAnswers.{Did, IsVisited, IsAsked, IsUnasked}
 use Rattle.desk_scenes.specs.Scenes.{IsQuiet}

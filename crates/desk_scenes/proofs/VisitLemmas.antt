@@ -31,7 +31,7 @@ use Rattle.tune_desk.specs.DeskDeeds.{DeskDeed, opened, closed}
 use Rattle.tune_asking.specs.Asking as asking
 use Rattle.tune_asking.proofs.AskLemmas.{asked_stays, asked_quiet, asked_answer}
 use Rattle.desk_scenes.specs.FileAnswers.{Did, IsVisited, IsAsked, HeldState}
-use Rattle.desk_scenes.specs.Visits.{Spares, Visits, Comes, ComesToNothing, visit}
+use Rattle.desk_scenes.specs.Visits.{SparesDisk, Visits, Comes, ComesToNothing, visit}
 use Rattle.desk_scenes.specs.OpenedFile.{IsArchiveOf, Opens, OpensToRead}
 
 -- what a stop may have left at a moment is of a moment that has come
@@ -53,19 +53,19 @@ more_deeds was mid now first second h k = k ∙ ap (λ l. l ++ second) h ∙ app
 module _ {D : Type 0} (disks : disk.Ghosts D) where
   -- a disk since which each file that a stop leaves might have been left before, or has the same pages
   pub spares_since : (old new : D) → (disks.honest new → SinceThen (disks.state old) (disks.state new) (LeftOrSame (disks.state old)))
-      → Spares disks old new
+      → SparesDisk disks old new
   spares_since old new since honest moment left late at =
       as_before_each (disks.state old) left (since_each (disks.state old) (disks.state new) _ (since honest) moment left late at)
 
   -- an archive that was opened, and closed
-  pub spares_closed : (old new : D) (archive : Shelf D) → IsArchiveOf disks old archive → archive.pages.disk ≡ Some new → Spares disks old new
+  pub spares_closed : (old new : D) (archive : Shelf D) → IsArchiveOf disks old archive → archive.pages.disk ≡ Some new → SparesDisk disks old new
   spares_closed old new archive is held =
       spares_since old new (λ honest. subst (λ at. SinceThen (disks.state old) (state_at disks.state at) (LeftOrSame (disks.state old))) held
       (is.leaves (subst (HonestAt disks.honest) (sym held) honest)))
 
   -- one that was opened, asked, and closed
   pub spares_asked : (old new : D) (archive after : Shelf D) → IsArchiveOf disks old archive → asking.IsOnlyAsked (store_on disks) archive after
-      → after.pages.disk ≡ Some new → Spares disks old new
+      → after.pages.disk ≡ Some new → SparesDisk disks old new
   spares_asked old new archive after is asked held honest moment left late at =
       let met : HonestAt disks.honest after.pages.disk = subst (HonestAt disks.honest) (sym held) honest in
       let there : LeftAt (state_at disks.state after.pages.disk) moment left = subst (λ d. LeftAt (state_at disks.state d) moment left) (sym held) at in
@@ -79,7 +79,7 @@ module _ {D : Type 0} (disks : disk.Ghosts D) where
 
   -- a visit to FILE, from its opening to read to its closing
   pub is_visited : (file : List ℕ) (archive : Shelf D) (was mid now : List (DeskDeed D)) (new : D) (opening : OpensToRead disks file archive was mid)
-      → Spares disks opening.opens.old new → now ≡ mid ++ closed file new ∷ []
+      → SparesDisk disks opening.opens.old new → now ≡ mid ++ closed file new ∷ []
       → (since : List (DeskDeed D)) × (now ≡ was ++ since) × IsVisited disks file since
   is_visited file archive was mid now new opening spares close =
       let all = two_deeds opening.mid mid now _ _ opening.opens.deeds close in (
@@ -97,7 +97,7 @@ module _ {D : Type 0} (disks : disk.Ghosts D) where
 
   -- and what it told of the state that it held
   pub is_asked : (file : List ℕ) (archive : Shelf D) (was mid now : List (DeskDeed D)) (new : D) (Told : State → Type 0)
-      (opening : OpensToRead disks file archive was mid) → Spares disks opening.opens.old new → now ≡ mid ++ closed file new ∷ []
+      (opening : OpensToRead disks file archive was mid) → SparesDisk disks opening.opens.old new → now ≡ mid ++ closed file new ∷ []
       → HeldState disks Told opening.opens.old new
       → (since : List (DeskDeed D)) × (now ≡ was ++ since) × IsAsked disks file Told since
   is_asked file archive was mid now new Told opening spares close told =

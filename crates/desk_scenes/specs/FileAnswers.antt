@@ -5,7 +5,7 @@ use Rattle.tune_disk.specs.declared.file.Access.TheVariants.{Read}
 use Rattle.tune_store.specs.State.{State}
 use Rattle.tune_format.specs.States.{Holds}
 use Rattle.tune_desk.specs.DeskDeeds.{DeskDeed}
-use Rattle.desk_scenes.specs.Visits.{Spares, Comes, ComesToNothing, visit}
+use Rattle.desk_scenes.specs.Visits.{SparesDisk, Comes, ComesToNothing, visit}
 
 -- FILE was opened to read alone, and closed: it is as it was.
 pub record IsVisited {D : Type 0} (disks : disk.Ghosts D) (file : List ℕ)
@@ -16,7 +16,7 @@ pub record IsVisited {D : Type 0} (disks : disk.Ghosts D) (file : List ℕ)
   pub new : D
   pub are : deeds ≡ before ++ visit file Read old new
   pub comes : Comes disks file before
-  pub spares : Spares disks old new
+  pub spares : SparesDisk disks old new
 
 -- Where its disk was honest it held a state, of which this is so.
 abbrev pub HeldState : {D : Type 0} → disk.Ghosts D → (State → Type 0) → D → D → Type 0

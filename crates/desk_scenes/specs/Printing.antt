@@ -4,14 +4,14 @@ use Rattle.tune_scripts.specs.Streams.{Streams}
 use Rattle.tune_cli.specs.ProgramLines.{IsWritten}
 
 -- These bytes were written and flushed, and the status is 0; or the writer failed.
-abbrev pub WritesOut : Streams → List ℕ → ℕ → Type 0
-WritesOut streams bytes status = (IsWritten streams.output bytes × (status ≡ 0))
+abbrev pub WritesOrFails : Streams → List ℕ → ℕ → Type 0
+WritesOrFails streams bytes status = (IsWritten streams.output bytes × (status ≡ 0))
     ⊎ (streams.output.now.faults ≡ suc streams.output.was.faults)
 
 -- And the input is left as it was.
 abbrev pub Prints : Streams → List ℕ → ℕ → Type 0
 Prints streams bytes status =
-    (streams.input.now ≡ streams.input.was) × WritesOut streams bytes status
+    (streams.input.now ≡ streams.input.was) × WritesOrFails streams bytes status
 
 -- Nothing was written.
 abbrev pub WritesNothing : Streams → Type 0

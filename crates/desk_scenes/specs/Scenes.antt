@@ -3,7 +3,7 @@ use Rattle.std.specs.Prelude.{◌≡◌, ◌≢◌, ◌⊎◌, ℕ, List}
 use Rattle.std.specs.List.{AllByRecursion}
 use Rattle.tune_scripts.specs.Streams.{Streams}
 use Rattle.tune_desk.specs.DeskDeeds.{DeskDeed, ChangesNothing}
-use Rattle.tune_desk.specs.Results.{Places, SparesFiles, Writes}
+use Rattle.tune_desk.specs.Results.{Places, SparesFiles, WritesTarget}
 use Rattle.tune_desk.specs.Refusals.{Refuses}
 use Rattle.tune_desk.specs.declared.refusals.ResultFault.{ResultFault}
 use Rattle.desk_scenes.specs.FileAnswers.{Did}
@@ -20,7 +20,7 @@ pub record WritesResult {D : Type 0} (places : Places) (bytes : List ℕ)
     (was now : List (DeskDeed D))
     (status : ℕ) : Type 0 where
   pub spares : SparesFiles places was now
-  pub answer : ((status ≡ 0) × Writes places bytes was now)
+  pub answer : ((status ≡ 0) × WritesTarget places bytes was now)
       ⊎ ((status ≢ 0) × (fault : ResultFault) × Refuses places fault was now)
 
 -- Nothing was done with files but to look at them and to read them.

@@ -17,8 +17,8 @@ IsSpared file = EachStopLeaves file (λ moment left. MayLeave file.was.now left
     ⊎ ((state : State) → Holds file.was.seen state → Holds left state))
 
 -- the same of FILE on a disk, where the disk is honest
-abbrev pub Spares : {D : Type 0} → disk.Ghosts D → D → D → Type 0
-Spares disks old new = disks.honest new
+abbrev pub SparesDisk : {D : Type 0} → disk.Ghosts D → D → D → Type 0
+SparesDisk disks old new = disks.honest new
     → IsSpared (record { was = disks.state old; now = disks.state new })
 
 -- FILE was asked for, to this end: it was opened, spared, and closed; or it could not be opened.
@@ -31,7 +31,7 @@ failed_visit file access fault = opened file access (Err fault) ∷ []
 -- one such visit
 pub data Visits {D : Type 0} (disks : disk.Ghosts D) (file : List ℕ) (access : Access)
     : List (DeskDeed D) → Type 0 where
-  spared : (old new : D) → Spares disks old new → Visits disks file access
+  spared : (old new : D) → SparesDisk disks old new → Visits disks file access
       (visit file access old new)
   failed : (fault : DeskFault) → Visits disks file access (failed_visit file access fault)
 

@@ -3,7 +3,7 @@ ghost use Rattle.std.specs.Prelude.{None, false, IfOk, IfErr, string_bytes};
 ghost use Rattle.tune_undo.specs.OldEntries.{entry_value};
 ghost use Rattle.tune_undo.specs.EntryBytes.{entry_bytes, mark_bytes};
 ghost use Rattle.tune_desk.specs.OldTexts.{Grows, GrowsNot};
-ghost use Rattle.tune_desk.specs.Results.{SparesFiles, places_of};
+ghost use Rattle.tune_desk.specs.Results.{SparesFiles, result_places};
 
 use tune_desk::{Desk, OldTextsFault, grow_old_texts};
 use tune_undo::{Entry, Mark, written_entry, written_mark};
@@ -14,7 +14,7 @@ pub fn keep_entry<K: AllocGlobal + Desk>(
     file: &String,
     entry: &Entry,
 ) -> Result<(), OldTextsFault>
-    ensures files { SparesFiles (places_of (string_bytes file.now) None false)
+    ensures files { SparesFiles (result_places (string_bytes file.now) None false)
         (K.deeds desk.old) (K.deeds desk.new) }
     ensures kept { IfOk result (λ _. Grows (string_bytes file.now)
         (entry_bytes (entry_value entry.now)) (K.deeds desk.old) (K.deeds desk.new)) }
@@ -33,7 +33,7 @@ pub fn keep_mark<K: AllocGlobal + Desk>(
     file: &String,
     mark: Mark,
 ) -> Result<(), OldTextsFault>
-    ensures files { SparesFiles (places_of (string_bytes file.now) None false)
+    ensures files { SparesFiles (result_places (string_bytes file.now) None false)
         (K.deeds desk.old) (K.deeds desk.new) }
     ensures kept { IfOk result (λ _. Grows (string_bytes file.now) (mark_bytes mark)
         (K.deeds desk.old) (K.deeds desk.new)) }

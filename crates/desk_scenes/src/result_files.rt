@@ -1,6 +1,6 @@
 // A result, written to a file.
 ghost use Rattle.std.specs.Prelude.{Some, string_bytes};
-ghost use Rattle.tune_desk.specs.Results.{places_of};
+ghost use Rattle.tune_desk.specs.Results.{result_places};
 ghost use Rattle.desk_scenes.specs.Scenes.{WritesResult};
 
 use crate::reasons::{DONE, say_unwritten};
@@ -17,7 +17,7 @@ pub fn write_file<E: Write, K: AllocGlobal + Desk>(
     errors: &mut E,
 ) -> u8
     ensures { let out_path = Some (string_bytes out.now) in
-        WritesResult (places_of (string_bytes file.now) out_path force) bytes.now
+        WritesResult (result_places (string_bytes file.now) out_path force) bytes.now
         (K.deeds desk.old) (K.deeds desk.new) result }
 {
     match write_result(desk.alloc(), desk, file, out, force, bytes) {

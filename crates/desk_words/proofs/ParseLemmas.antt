@@ -10,14 +10,14 @@ use Rattle.clap.specs.Words.{subcommand_of, subcommand_rows, subcommand_rows_of}
 use Rattle.desk_words.specs.declared.asked.Words.{Words}
 use Rattle.desk_words.specs.declared.asked.OrderFault.{OrderFault}
 use Rattle.desk_words.specs.declared.asked.OrderFault.TheVariants as fault
-use Rattle.desk_words.specs.WordAnswers.{Gives, WordRefusal, Refuses}
+use Rattle.desk_words.specs.WordAnswers.{GivesWanted, WordRefusal, RefusesWords}
 use Rattle.desk_words.specs.DeskCommands.{desk_app}
-use Rattle.desk_words.specs.AskedWords.{Asked, FaultFits, asked_by, asked_in, asked_of, faults_in, order_by}
+use Rattle.desk_words.specs.AskedWords.{Asked, OrderFaultFits, asked_by, asked_in, asked_of, order_faults_in, order_by}
 use Rattle.desk_words.specs.NamedMeanings.{meaning_named}
 
 -- the matches are those of the words
 pub record Parses (words : List Text) (m : ArgMatches) : Type 0 where
-  pub parsed : faults_in words ≡ []
+  pub parsed : order_faults_in words ≡ []
   pub own : rows_of (found_of m) ≡ matches_of desk_app words
   pub command : subcommand_rows_of m ≡ subcommand_of desk_app words
 
@@ -45,25 +45,26 @@ pub same_asked : (chance : _) (words : List Text) (m : ArgMatches) → Parses wo
     → asked_in chance (rows_of (found_of m)) (subcommand_rows_of m) ≡ asked_of chance words
 same_asked chance words m p = ap₂ (asked_in chance) p.own p.command
 
-pub asks : (wanted given : Result Asked WordRefusal) (r : Result Words OrderFault) → wanted ≡ given → Gives asked_by wanted r
+pub asks : (wanted given : Result Asked WordRefusal) (r : Result Words OrderFault) → wanted ≡ given → GivesWanted asked_by wanted r
     → IfOk r (λ asked. given ≡ Ok (asked_by asked))
 asks wanted given (Ok asked) same gives = sym same ∙ gives
 asks wanted given (Err fault) same gives = tt
 
-refused : (chance : _) (words : List Text) (fault : OrderFault) → faults_in words ≡ [] → Refuses (asked_of chance words) fault → FaultFits chance words fault
+refused : (chance : _) (words : List Text) (fault : OrderFault) → order_faults_in words ≡ [] → RefusesWords (asked_of chance words) fault
+    → OrderFaultFits chance words fault
 refused chance words (fault.Clap error) none refuses = inl refuses
 refused chance words _ none refuses = (none, refuses)
 
-pub fits : (chance : _) (words : List Text) (wanted : Result Asked WordRefusal) (r : Result Words OrderFault) → faults_in words ≡ []
-    → wanted ≡ asked_of chance words → Gives asked_by wanted r → IfErr r (FaultFits chance words)
+pub fits : (chance : _) (words : List Text) (wanted : Result Asked WordRefusal) (r : Result Words OrderFault) → order_faults_in words ≡ []
+    → wanted ≡ asked_of chance words → GivesWanted asked_by wanted r → IfErr r (OrderFaultFits chance words)
 fits chance words wanted (Ok asked) none same gives = tt
 fits chance words wanted (Err fault) none same gives =
-    let Says : Result Asked WordRefusal → Type 0 = λ given. Refuses given fault in
+    let Says : Result Asked WordRefusal → Type 0 = λ given. RefusesWords given fault in
     refused chance words fault none (subst Says same gives)
 
 -- what does not parse fails as it is to
 pub fails : (app : App) (words : List Text) (error : _) → app ≡ desk_app → (is_simple_and_free app ≡ true → HasKind (fault_of app words) error)
-    → HasKind (faults_in words) error
+    → HasKind (order_faults_in words) error
 fails app words error is kinds =
     let Fails : App → Type 0 = λ a. is_simple_and_free a ≡ true → HasKind (fault_of a words) error in
     subst Fails is kinds simple_and_free

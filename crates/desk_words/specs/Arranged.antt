@@ -117,11 +117,11 @@ put_next next.Words sorted text = put_behind sorted.command sorted text
 put_next next.Numbers sorted text = put_number sorted text
 put_next next.Any sorted text = put_any sorted text
 
-abbrev pub put : SortedWords → Text → SortedWords
-put sorted text = put_next sorted.next sorted text
+abbrev pub put_sorted : SortedWords → Text → SortedWords
+put_sorted sorted text = put_next sorted.next sorted text
 
 abbrev pub sorted_in : List Text → SortedWords
-sorted_in words = fold put nothing_sorted words
+sorted_in words = fold put_sorted nothing_sorted words
 
 -- the command, and what goes with it
 abbrev pub command_part : SortedWords → List Text

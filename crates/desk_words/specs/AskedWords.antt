@@ -6,7 +6,7 @@ use Rattle.clap.specs.Words.{subcommand_of}
 use Rattle.desk_words.specs.declared.asked.Words.{Words}
 use Rattle.desk_words.specs.declared.asked.OrderFault.{OrderFault}
 use Rattle.desk_words.specs.declared.asked.OrderFault.TheVariants.{Clap}
-use Rattle.desk_words.specs.WordAnswers.{WordRefusal, Refuses, and_then, empty_file, missing}
+use Rattle.desk_words.specs.WordAnswers.{WordRefusal, RefusesWords, and_then, empty_file, missing}
 use Rattle.desk_words.specs.DeskCommands.{desk_app}
 use Rattle.desk_words.specs.Given.{number_in}
 use Rattle.desk_words.specs.NamedMeanings.{meaning_named}
@@ -53,11 +53,12 @@ abbrev pub asked_of : ℕ → List Text → Result Asked WordRefusal
 asked_of chance words = asked_in chance (matches_of desk_app words) (subcommand_of desk_app words)
 
 -- the kinds of error in the words, help and version among them; none where they parse
-abbrev pub faults_in : List Text → Kinds
-faults_in words = fault_of desk_app words
+abbrev pub order_faults_in : List Text → Kinds
+order_faults_in words = fault_of desk_app words
 
 -- The error is one that the parser finds in the words, or out of memory; or they parse, and are
 -- refused for this.
-abbrev pub FaultFits : ℕ → List Text → OrderFault → Type 0
-FaultFits chance words (Clap error) = HasKind (faults_in words) error
-FaultFits chance words fault = (faults_in words ≡ []) × Refuses (asked_of chance words) fault
+abbrev pub OrderFaultFits : ℕ → List Text → OrderFault → Type 0
+OrderFaultFits chance words (Clap error) = HasKind (order_faults_in words) error
+OrderFaultFits chance words fault = (order_faults_in words ≡ [])
+    × RefusesWords (asked_of chance words) fault

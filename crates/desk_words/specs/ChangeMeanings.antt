@@ -12,8 +12,8 @@ use Rattle.desk_words.specs.declared.change_meanings.ChangeVerb.{ChangeVerb}
 use Rattle.desk_words.specs.declared.change_meanings.ChangeVerb.TheVariants as verb
 use Rattle.desk_words.specs.WordAnswers.{WordRefusal, and_then, no_books, new_and_split, put_alone}
 use Rattle.desk_words.specs.WordAnswers.{list_and_to, form_alone}
-use Rattle.desk_words.specs.Given.{given, first_given, is_set, form_in, number_in, numbers_in}
-use Rattle.desk_words.specs.Given.{number_of, path_in, paths_in, name_in}
+use Rattle.desk_words.specs.Given.{given, first_given, is_set, form_in, number_in, numbers_given}
+use Rattle.desk_words.specs.Given.{number_given, path_in, paths_in, name_in}
 use Rattle.desk_words.specs.OrderMeanings.{OrderMeaning, makes, adds, changes, replaces, undoes}
 use Rattle.desk_words.specs.OrderMeanings.{backs_up, restores, loads, upgrades}
 use Rattle.desk_words.specs.OrderMeanings.{deletes, puts, cuts, moves, drops}
@@ -61,21 +61,21 @@ adds_in rows = and_then (some_books (given (codes "BOOK") rows))
 
 -- TUNES AND SET LISTS
 abbrev pub deletes_in : List Row → Result OrderMeaning WordRefusal
-deletes_in rows = and_then (numbers_in (given (codes "NUM") rows))
+deletes_in rows = and_then (numbers_given (given (codes "NUM") rows))
     (λ numbers. Ok (changes (deletes numbers)))
 
 -- a name and a number at least
 abbrev pub puts_by : Text → List Text → Result OrderMeaning WordRefusal
 puts_by name [] = Err put_alone
 puts_by name (word ∷ words) = and_then (name_in name)
-    (λ text. and_then (numbers_in (word ∷ words)) (λ numbers. Ok (changes (puts text numbers))))
+    (λ text. and_then (numbers_given (word ∷ words)) (λ numbers. Ok (changes (puts text numbers))))
 
 abbrev pub puts_in : List Row → Result OrderMeaning WordRefusal
 puts_in rows = puts_by (first_given (codes "NAME") rows) (given (codes "NUM") rows)
 
 abbrev pub cuts_in : List Row → Result OrderMeaning WordRefusal
 cuts_in rows = and_then (name_in (first_given (codes "NAME") rows))
-    (λ name. and_then (numbers_in (given (codes "PLACE") rows))
+    (λ name. and_then (numbers_given (given (codes "PLACE") rows))
     (λ places. Ok (changes (cuts name places))))
 
 abbrev pub moves_in : List Row → Result OrderMeaning WordRefusal
@@ -91,7 +91,7 @@ drops_in rows = and_then (name_in (first_given (codes "NAME") rows))
 -- a tune is replaced by a book, where it has REV, if that is given
 abbrev pub replaces_in : List Row → Result OrderMeaning WordRefusal
 replaces_in rows = and_then (number_in (first_given (codes "NUM") rows))
-    (λ number. and_then (number_of (first_of (codes "revision") rows))
+    (λ number. and_then (number_given (first_of (codes "revision") rows))
     (λ revision. and_then (path_in (first_given (codes "BOOK") rows))
     (λ book. Ok (replaces number revision book))))
 
@@ -110,14 +110,14 @@ undoing_by false None form = unlisted form undo.Last
 
 abbrev pub undoes_in : List Row → Result OrderMeaning WordRefusal
 undoes_in rows = and_then (form_in rows)
-    (λ form. and_then (number_of (first_of (codes "to") rows))
+    (λ form. and_then (number_given (first_of (codes "to") rows))
     (λ number. and_then (undoing_by (is_set (codes "list") rows) number form)
     (λ undoing. Ok (undoes undoing))))
 
 -- COPIES
 abbrev pub backs_up_in : List Row → Result OrderMeaning WordRefusal
 backs_up_in rows = and_then (path_in (first_given (codes "COPY") rows))
-    (λ copy. and_then (number_of (first_of (codes "keep") rows))
+    (λ copy. and_then (number_given (first_of (codes "keep") rows))
     (λ keep. Ok (backs_up copy keep)))
 
 abbrev pub restores_in : List Row → Result OrderMeaning WordRefusal

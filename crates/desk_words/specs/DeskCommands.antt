@@ -66,8 +66,8 @@ list_commands = with_rules (codes "titles") list_rules ∷ with_rules (codes "se
     ∷ with_rules (codes "set") (list_rules ++ one_rule (codes "NAME") ∷ [])
     ∷ with_rules (codes "twins") list_rules ∷ []
 
-abbrev pub tune_commands : List App
-tune_commands = with_rules (codes "show") (many_rule (codes "NUM") ∷ [])
+abbrev pub commands_on_tunes : List App
+commands_on_tunes = with_rules (codes "show") (many_rule (codes "NUM") ∷ [])
     ∷ with_rules (codes "export")
     (tune_rule ∷ force_rule ∷ out_rule ∷ new_rule (codes "NAME") ∷ [])
     ∷ with_rules (codes "dump") (force_rule ∷ out_rule ∷ [])
@@ -114,14 +114,14 @@ told_commands = new_app (codes "edit") ∷ new_app (codes "print") ∷ new_app (
     ∷ new_app (codes "site") ∷ []
 
 -- -f FILE
-abbrev pub file_rule : Rule
-file_rule = record (new_rule (codes "file")) { short = Some 102; value_names = 1 }
+abbrev pub file_option_rule : Rule
+file_option_rule = record (new_rule (codes "file")) { short = Some 102; value_names = 1 }
 
 -- the program before its commands
 abbrev pub program_alone : App
 program_alone = with_rule
     (with_rule (on_top (λ shape. record shape { has_version = true })
-    (new_app (codes "tunes-book"))) file_rule)
+    (new_app (codes "tunes-book"))) file_option_rule)
     (option_rule (codes "wait"))
 
 -- each command in turn
@@ -131,5 +131,5 @@ with_commands app commands = fold (λ all command. with_subcommand all command.t
 -- the program's command line
 unfoldable pub desk_app : App
 desk_app = with_commands program_alone
-    (((((((find_commands ++ list_commands) ++ tune_commands) ++ other_commands)
+    (((((((find_commands ++ list_commands) ++ commands_on_tunes) ++ other_commands)
     ++ change_commands) ++ place_commands) ++ copy_commands) ++ told_commands)

@@ -56,9 +56,9 @@ abbrev pub number_in : Text → Result ℕ WordRefusal
 number_in word = number_by (number_written word) word
 
 -- the number of an option that may be given
-abbrev pub number_of : Option Text → Result (Option ℕ) WordRefusal
-number_of None = Ok None
-number_of (Some word) = and_then (number_in word) (λ number. Ok (Some number))
+abbrev pub number_given : Option Text → Result (Option ℕ) WordRefusal
+number_given None = Ok None
+number_given (Some word) = and_then (number_in word) (λ number. Ok (Some number))
 
 -- each word is read in turn
 abbrev pub each_in : {A : Type 0} → (Text → Result A WordRefusal) → List Text
@@ -67,8 +67,8 @@ each_in read [] = Ok []
 each_in read (word ∷ words) = and_then (read word)
     (λ value. and_then (each_in read words) (λ values. Ok (value ∷ values)))
 
-abbrev pub numbers_in : List Text → Result (List ℕ) WordRefusal
-numbers_in words = each_in number_in words
+abbrev pub numbers_given : List Text → Result (List ℕ) WordRefusal
+numbers_given words = each_in number_in words
 
 -- a path is not empty
 abbrev pub path_in : Text → Result Text WordRefusal
@@ -79,12 +79,12 @@ abbrev pub paths_in : List Text → Result (List Text) WordRefusal
 paths_in words = each_in path_in words
 
 -- letters, digits, - (45) and _ (95)
-abbrev pub is_name_byte : ℕ → Bool
-is_name_byte byte = is_digit byte || ((nat_le 65 byte && nat_le byte 90)
+abbrev pub is_list_name_byte : ℕ → Bool
+is_list_name_byte byte = is_digit byte || ((nat_le 65 byte && nat_le byte 90)
     || ((nat_le 97 byte && nat_le byte 122) || (byte == 45 || byte == 95)))
 
 abbrev pub is_name : Text → Bool
-is_name word = not (length word == 0) && list_all is_name_byte word
+is_name word = not (length word == 0) && list_all is_list_name_byte word
 
 -- the name of a set list
 abbrev pub name_in : Text → Result Text WordRefusal

@@ -17,7 +17,7 @@ use Rattle.desk_words.specs.declared.order_meanings.Verb.{Verb}
 use Rattle.desk_words.specs.declared.order_meanings.Verb.TheVariants as verb
 use Rattle.desk_words.specs.WordAnswers.{WordRefusal, and_then, nothing_asked}
 use Rattle.desk_words.specs.WordAnswers.{name_and_tunes}
-use Rattle.desk_words.specs.Given.{given, first_given, is_set, form_in, number_in, numbers_in}
+use Rattle.desk_words.specs.Given.{given, first_given, is_set, form_in, number_in, numbers_given}
 use Rattle.desk_words.specs.Given.{path_in, paths_in, name_in}
 use Rattle.desk_words.specs.SoughtConditions.{ConditionMeaning, sought_by, sought_in}
 
@@ -156,14 +156,14 @@ set_in rows = and_then (name_in (first_given (codes "NAME") rows))
     (λ name. and_then (form_in rows) (λ form. Ok (lists_set name form)))
 
 abbrev pub shows_in : List Row → Result Asking WordRefusal
-shows_in rows = and_then (numbers_in (given (codes "NUM") rows)) (λ numbers. Ok (shows numbers))
+shows_in rows = and_then (numbers_given (given (codes "NUM") rows)) (λ numbers. Ok (shows numbers))
 
 -- NAME, the numbers of --tune, or all
 abbrev pub exports_by : Option Text → List Text → Result Asking WordRefusal
 exports_by (Some name) (tune ∷ tunes) = Err name_and_tunes
 exports_by (Some name) [] = and_then (name_in name) (λ text. Ok (exports_set text))
 exports_by None (tune ∷ tunes) =
-    and_then (numbers_in (tune ∷ tunes)) (λ numbers. Ok (exports_tunes numbers))
+    and_then (numbers_given (tune ∷ tunes)) (λ numbers. Ok (exports_tunes numbers))
 exports_by None [] = Ok exports_all
 
 abbrev pub exports_in : List Row → Result Asking WordRefusal
@@ -201,19 +201,19 @@ abbrev pub checks_in : List Row → Result OrderMeaning WordRefusal
 checks_in rows = checks_by (first_of (codes "COPY") rows)
 
 -- what such a command asks for, by what was found for its arguments
-abbrev pub meaning_of : ℕ → Verb → List Row → Result OrderMeaning WordRefusal
-meaning_of chance verb.Find rows = telling (finds_in rows)
-meaning_of chance verb.Count rows = telling (counts_in rows)
-meaning_of chance verb.Random rows = telling (chooses_in chance rows)
-meaning_of chance verb.Titles rows = telling (lists_in lists_titles rows)
-meaning_of chance verb.Sets rows = telling (lists_in lists_sets rows)
-meaning_of chance verb.Set rows = telling (set_in rows)
-meaning_of chance verb.Twins rows = telling (lists_in lists_twins rows)
-meaning_of chance verb.Show rows = telling (shows_in rows)
-meaning_of chance verb.Check rows = checks_in rows
-meaning_of chance verb.Export rows = writing (exports_in rows) rows
-meaning_of chance verb.Dump rows = writing (Ok dumps) rows
-meaning_of chance verb.ImportCheck rows = books_in rows
-meaning_of chance verb.Place rows = places_in rows
-meaning_of chance verb.Draft rows = drafts_in rows
-meaning_of chance verb.Ask rows = Ok asks
+abbrev pub order_meaning : ℕ → Verb → List Row → Result OrderMeaning WordRefusal
+order_meaning chance verb.Find rows = telling (finds_in rows)
+order_meaning chance verb.Count rows = telling (counts_in rows)
+order_meaning chance verb.Random rows = telling (chooses_in chance rows)
+order_meaning chance verb.Titles rows = telling (lists_in lists_titles rows)
+order_meaning chance verb.Sets rows = telling (lists_in lists_sets rows)
+order_meaning chance verb.Set rows = telling (set_in rows)
+order_meaning chance verb.Twins rows = telling (lists_in lists_twins rows)
+order_meaning chance verb.Show rows = telling (shows_in rows)
+order_meaning chance verb.Check rows = checks_in rows
+order_meaning chance verb.Export rows = writing (exports_in rows) rows
+order_meaning chance verb.Dump rows = writing (Ok dumps) rows
+order_meaning chance verb.ImportCheck rows = books_in rows
+order_meaning chance verb.Place rows = places_in rows
+order_meaning chance verb.Draft rows = drafts_in rows
+order_meaning chance verb.Ask rows = Ok asks

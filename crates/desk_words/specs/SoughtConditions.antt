@@ -30,8 +30,8 @@ sought_by (condition.Notes notes key) =
     noted (string_bytes notes) (option_map string_bytes key)
 
 -- the kinds, by name
-abbrev pub kind_of : Text → Option SoughtKind
-kind_of word = if bytes_eq word (codes "title") then Some Title
+abbrev pub sought_kind : Text → Option SoughtKind
+sought_kind word = if bytes_eq word (codes "title") then Some Title
     else if bytes_eq word (codes "rhythm") then Some Rhythm
     else if bytes_eq word (codes "key") then Some Key
     else if bytes_eq word (codes "notes") then Some Notes
@@ -45,16 +45,16 @@ of_kind Key key text = in_key text
 of_kind Notes key text = noted text (option_map one_line key)
 
 -- words with a blank between each two
-abbrev pub joined : List Text → Text
-joined [] = []
-joined (word ∷ words) = one_line word ++ flat_map (λ more. 32 ∷ one_line more) words
+abbrev pub joined_words : List Text → Text
+joined_words [] = []
+joined_words (word ∷ words) = one_line word ++ flat_map (λ more. 32 ∷ one_line more) words
 
 -- The first of several words may be a kind. Where it is, it stands for no title alone.
 abbrev pub by_kind : Option SoughtKind → Option Text → Text → List Text
     → Result ConditionMeaning WordRefusal
-by_kind None key word rest = Ok (titled (joined (word ∷ rest)))
+by_kind None key word rest = Ok (titled (joined_words (word ∷ rest)))
 by_kind (Some kind) key word [] = Err (kind_alone kind)
-by_kind (Some kind) key word (next ∷ rest) = Ok (of_kind kind key (joined (next ∷ rest)))
+by_kind (Some kind) key word (next ∷ rest) = Ok (of_kind kind key (joined_words (next ∷ rest)))
 
 -- under --within each word is looked for anywhere in a title
 abbrev pub by_lines : List Text → Result (List ConditionMeaning) WordRefusal
@@ -64,7 +64,7 @@ by_lines (word ∷ rest) = Ok (within (map one_line (word ∷ rest)) ∷ [])
 abbrev pub by_plain_words : Option Text → List Text → Result (List ConditionMeaning) WordRefusal
 by_plain_words key [] = Ok []
 by_plain_words key (word ∷ rest) =
-    and_then (by_kind (kind_of word) key word rest) (λ sought. Ok (sought ∷ []))
+    and_then (by_kind (sought_kind word) key word rest) (λ sought. Ok (sought ∷ []))
 
 -- what the words say that are no options
 abbrev pub by_words : Bool → Option Text → List Text → Result (List ConditionMeaning) WordRefusal

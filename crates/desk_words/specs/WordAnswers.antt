@@ -35,47 +35,48 @@ and_then (Ok value) next = next value
 and_then (Err refusal) next = Err refusal
 
 -- the refusal that a fault tells; none where the fault is the parser's
-abbrev pub refusal_of : OrderFault → Option WordRefusal
-refusal_of (fault.Clap error) = None
-refusal_of fault.Missing = Some missing
-refusal_of fault.NothingAsked = Some nothing_asked
-refusal_of (fault.KindAlone kind) = Some (kind_alone kind)
-refusal_of fault.WithinAlone = Some within_alone
-refusal_of fault.KeyAlone = Some key_alone
-refusal_of fault.TwoForms = Some two_forms
-refusal_of fault.NameAndTunes = Some name_and_tunes
-refusal_of fault.NoBooks = Some no_books
-refusal_of fault.NewAndSplit = Some new_and_split
-refusal_of fault.PutAlone = Some put_alone
-refusal_of fault.ListAndTo = Some list_and_to
-refusal_of fault.FormAlone = Some form_alone
-refusal_of (fault.NoNumber word) = Some (no_number (string_bytes word))
-refusal_of (fault.NoName word) = Some (no_name (string_bytes word))
-refusal_of fault.EmptyFile = Some empty_file
-refusal_of fault.EmptyPath = Some empty_path
+abbrev pub refusal_told : OrderFault → Option WordRefusal
+refusal_told (fault.Clap error) = None
+refusal_told fault.Missing = Some missing
+refusal_told fault.NothingAsked = Some nothing_asked
+refusal_told (fault.KindAlone kind) = Some (kind_alone kind)
+refusal_told fault.WithinAlone = Some within_alone
+refusal_told fault.KeyAlone = Some key_alone
+refusal_told fault.TwoForms = Some two_forms
+refusal_told fault.NameAndTunes = Some name_and_tunes
+refusal_told fault.NoBooks = Some no_books
+refusal_told fault.NewAndSplit = Some new_and_split
+refusal_told fault.PutAlone = Some put_alone
+refusal_told fault.ListAndTo = Some list_and_to
+refusal_told fault.FormAlone = Some form_alone
+refusal_told (fault.NoNumber word) = Some (no_number (string_bytes word))
+refusal_told (fault.NoName word) = Some (no_name (string_bytes word))
+refusal_told fault.EmptyFile = Some empty_file
+refusal_told fault.EmptyPath = Some empty_path
 
 -- out of memory, which the parser reports as its own error
-abbrev pub IsOutOfMemory : OrderFault → Type 0
-IsOutOfMemory (fault.Clap error) = kind_of error ≡ OutOfMemory
-IsOutOfMemory _ = ⊥
+abbrev pub IsFaultOfMemory : OrderFault → Type 0
+IsFaultOfMemory (fault.Clap error) = kind_of error ≡ OutOfMemory
+IsFaultOfMemory _ = ⊥
 
 -- The fault is the refusal that is wanted, or out of memory.
-abbrev pub Refuses : {B : Type 0} → Result B WordRefusal → OrderFault → Type 0
-Refuses wanted fault =
-    MatchOption (refusal_of fault) (IsOutOfMemory fault) (λ refusal. wanted ≡ Err refusal)
+abbrev pub RefusesWords : {B : Type 0} → Result B WordRefusal → OrderFault → Type 0
+RefusesWords wanted fault =
+    MatchOption (refusal_told fault) (IsFaultOfMemory fault) (λ refusal. wanted ≡ Err refusal)
 
 -- A call gives the value that is wanted, or refuses as is wanted, or runs out of memory.
-abbrev pub Gives : {A B : Type 0} → (A → B) → Result B WordRefusal → Result A OrderFault → Type 0
-Gives view wanted (Ok value) = wanted ≡ Ok (view value)
-Gives view wanted (Err fault) = Refuses wanted fault
+abbrev pub GivesWanted : {A B : Type 0} → (A → B) → Result B WordRefusal → Result A OrderFault
+    → Type 0
+GivesWanted view wanted (Ok value) = wanted ≡ Ok (view value)
+GivesWanted view wanted (Err fault) = RefusesWords wanted fault
 
 -- the status that goes with a kind of error
-abbrev pub status_of_kind : ErrorKind → ℕ
-status_of_kind DisplayHelp = 0
-status_of_kind DisplayVersion = 0
-status_of_kind OutOfMemory = 1
-status_of_kind _ = 2
+abbrev pub status_of_error_kind : ErrorKind → ℕ
+status_of_error_kind DisplayHelp = 0
+status_of_error_kind DisplayVersion = 0
+status_of_error_kind OutOfMemory = 1
+status_of_error_kind _ = 2
 
-abbrev pub status_of_fault : OrderFault → ℕ
-status_of_fault (fault.Clap error) = status_of_kind (kind_of error)
-status_of_fault _ = 2
+abbrev pub status_of_order_fault : OrderFault → ℕ
+status_of_order_fault (fault.Clap error) = status_of_error_kind (kind_of error)
+status_of_order_fault _ = 2

@@ -2,11 +2,11 @@
 // those of the program before the command, and those of the command behind it.
 ghost use Rattle.std.specs.Prelude.{◌≡◌, ◌++◌, map, drop, string_bytes, IfOk, OnOk};
 ghost use Rattle.desk_words.specs.Arranged.{kind_of_word, kind_of_option, kind_by_start};
-ghost use Rattle.desk_words.specs.Arranged.{nothing_sorted, put};
+ghost use Rattle.desk_words.specs.Arranged.{nothing_sorted, put_sorted};
 ghost use Rattle.desk_words.specs.Arranged.{put_any, put_behind, put_plain, sorted_in, lined_up};
 ghost use Rattle.desk_words.specs.Arranged.{arranged, put_number, put_top, put_option, put_help};
 ghost use Rattle.desk_words.specs.Arranged.{put_dashes, command_part};
-ghost use Rattle.desk_words.specs.Inside.Sorting.{sorted_by, texts_of};
+ghost use Rattle.desk_words.specs.Inside.Sorting.{sorted_by, texts_behind};
 
 use crate::found::{is_digits, put_all};
 use std::alloc::{AllocError, Global};
@@ -214,7 +214,7 @@ fn put_number<'a>(sorted: &mut Sorted<'a>, word: &'a str) -> Result<(), AllocErr
 
 // A word more.
 fn put<'a>(sorted: &mut Sorted<'a>, word: &'a str) -> Result<(), AllocError>
-    ensures { OnOk result (sorted_by sorted.new ≡ put (sorted_by sorted.old) word.now) }
+    ensures { OnOk result (sorted_by sorted.new ≡ put_sorted (sorted_by sorted.old) word.now) }
 {
     match sorted.next {
         Next::TopValue => put_top(sorted, Next::Any, word),
@@ -238,7 +238,8 @@ fn sort_words<'a>(alloc: Global, words: &'a [String]) -> Result<Sorted<'a>, Allo
 // The command, and what goes with it.
 fn put_command<'a>(all: &mut Vec<&'a str>, sorted: &Sorted<'a>) -> Result<(), AllocError>
     ensures { OnOk result
-        (texts_of all.new.items ≡ texts_of all.old.items ++ command_part (sorted_by sorted.now)) }
+        (texts_behind all.new.items ≡ texts_behind all.old.items
+        ++ command_part (sorted_by sorted.now)) }
 {
     if let Some(command) = sorted.command {
         all.push(command)?;
@@ -251,7 +252,7 @@ fn put_command<'a>(all: &mut Vec<&'a str>, sorted: &Sorted<'a>) -> Result<(), Al
 
 // The words, one behind another.
 fn lined_up<'a>(alloc: Global, sorted: &Sorted<'a>) -> Result<Vec<&'a str>, AllocError>
-    ensures { IfOk result (λ all. texts_of all.items ≡ lined_up (sorted_by sorted.now)) }
+    ensures { IfOk result (λ all. texts_behind all.items ≡ lined_up (sorted_by sorted.now)) }
 {
     let mut all = Vec::new(alloc);
     all.push("tunes-book")?;
@@ -277,7 +278,7 @@ fn behind_first(words: &[String]) -> &[String]
 
 // The words as the parser is given them.
 pub(crate) fn arranged<'a>(alloc: Global, words: &'a [String]) -> Result<Vec<&'a str>, AllocError>
-    ensures { IfOk result (λ all. texts_of all.items ≡ arranged (map string_bytes words.now)) }
+    ensures { IfOk result (λ all. texts_behind all.items ≡ arranged (map string_bytes words.now)) }
 {
     let sorted = sort_words(alloc, behind_first(words))?;
     lined_up(alloc, &sorted)

@@ -3,14 +3,15 @@
 ghost use Rattle.std.specs.Prelude.{◌≡◌, [], IfOk, IfErr, IsOk, Ok, Some, map, string_bytes};
 ghost use Rattle.std.specs.Prelude.{option_map};
 ghost use Rattle.clap.specs.Words.{rows_of, found_of, subcommand_rows_of};
-ghost use Rattle.desk_words.specs.WordAnswers.{Gives, status_of_fault};
+ghost use Rattle.desk_words.specs.WordAnswers.{GivesWanted, status_of_order_fault};
 ghost use Rattle.desk_words.specs.Arranged.{arranged};
 ghost use Rattle.desk_words.specs.JoinedValues.{joined_values};
-ghost use Rattle.desk_words.specs.AskedWords.{asked_by, asked_in, asked_of, faults_in, file_by};
+ghost use Rattle.desk_words.specs.AskedWords.{asked_by, asked_in, asked_of, order_faults_in};
+ghost use Rattle.desk_words.specs.AskedWords.{file_by};
 ghost use Rattle.desk_words.specs.AskedWords.{wait_by};
-ghost use Rattle.desk_words.specs.AskedWords.{order_by, FaultFits};
+ghost use Rattle.desk_words.specs.AskedWords.{order_by, OrderFaultFits};
 ghost use Rattle.desk_words.specs.OrderMeanings.{meaning_by};
-ghost use Rattle.desk_words.specs.Inside.Sorting.{texts_of};
+ghost use Rattle.desk_words.specs.Inside.Sorting.{texts_behind};
 
 use crate::arranging::arranged;
 use crate::desk_commands::command_line;
@@ -149,9 +150,9 @@ pub enum OrderFault {
 }
 
 impl From<AllocError> for OrderFault {
-    ghost use Rattle.desk_words.specs.WordAnswers.{IsOutOfMemory};
+    ghost use Rattle.desk_words.specs.WordAnswers.{IsFaultOfMemory};
 
-    ghost from_gives = { λ _ fault. IsOutOfMemory fault };
+    ghost from_gives = { λ _ fault. IsFaultOfMemory fault };
 
     fn from(e: AllocError) -> OrderFault {
         OrderFault::Clap(Error::from(e))
@@ -159,9 +160,9 @@ impl From<AllocError> for OrderFault {
 }
 
 impl<T: Drop> From<AllocFailed<T>> for OrderFault {
-    ghost use Rattle.desk_words.specs.WordAnswers.{IsOutOfMemory};
+    ghost use Rattle.desk_words.specs.WordAnswers.{IsFaultOfMemory};
 
-    ghost from_gives = { λ _ fault. IsOutOfMemory fault };
+    ghost from_gives = { λ _ fault. IsFaultOfMemory fault };
 
     fn from(e: AllocFailed<T>) -> OrderFault {
         OrderFault::Clap(Error::from(AllocError::from(e)))
@@ -170,7 +171,7 @@ impl<T: Drop> From<AllocFailed<T>> for OrderFault {
 
 // The path of the archive.
 fn file(alloc: Global, word: Option<&str>) -> Result<Option<String>, OrderFault>
-    ensures { Gives (option_map string_bytes)
+    ensures { GivesWanted (option_map string_bytes)
         (file_by (option_map (λ word. word.now) word.entry)) result }
 {
     match word {
@@ -187,7 +188,7 @@ fn file(alloc: Global, word: Option<&str>) -> Result<Option<String>, OrderFault>
 
 // How long to wait.
 fn wait(alloc: Global, word: Option<&str>) -> Result<u32, OrderFault>
-    ensures { Gives (λ seconds. seconds)
+    ensures { GivesWanted (λ seconds. seconds)
         (wait_by (option_map (λ word. word.now) word.entry)) result }
 {
     match word {
@@ -198,7 +199,7 @@ fn wait(alloc: Global, word: Option<&str>) -> Result<u32, OrderFault>
 
 // The order of the command.
 fn order_in(alloc: Global, matches: &ArgMatches, chance: u64) -> Result<Order, OrderFault>
-    ensures { Gives meaning_by (order_by chance (subcommand_rows_of matches.now)) result }
+    ensures { GivesWanted meaning_by (order_by chance (subcommand_rows_of matches.now)) result }
 {
     match matches.subcommand() {
         None => Err(OrderFault::Missing),
@@ -208,7 +209,7 @@ fn order_in(alloc: Global, matches: &ArgMatches, chance: u64) -> Result<Order, O
 
 // What is asked by what the parser found.
 fn asked_in(alloc: Global, matches: &ArgMatches, chance: u64) -> Result<Words, OrderFault>
-    ensures { Gives asked_by
+    ensures { GivesWanted asked_by
         (asked_in chance (rows_of (found_of matches.now)) (subcommand_rows_of matches.now)) result }
 {
     let file = file(alloc, value(matches, "file"))?;
@@ -220,9 +221,9 @@ fn asked_in(alloc: Global, matches: &ArgMatches, chance: u64) -> Result<Words, O
 // What is asked by words as the parser is given them.
 fn asked_of(alloc: Global, words: &[&str], chance: u64) -> Result<Words, OrderFault>
     ensures asked { IfOk result (λ asked.
-        asked_of chance (texts_of words.now) ≡ Ok (asked_by asked)) }
-    ensures parsed { IfOk result (λ _. faults_in (texts_of words.now) ≡ []) }
-    ensures fault { IfErr result (FaultFits chance (texts_of words.now)) }
+        asked_of chance (texts_behind words.now) ≡ Ok (asked_by asked)) }
+    ensures parsed { IfOk result (λ _. order_faults_in (texts_behind words.now) ≡ []) }
+    ensures fault { IfErr result (OrderFaultFits chance (texts_behind words.now)) }
 {
     match command_line(alloc)?.try_get_matches_from(words) {
         Ok(matches) => asked_in(alloc, &matches, chance),
@@ -240,9 +241,9 @@ pub fn words_of(alloc: Global, words: &[String], chance: u64) -> Result<Words, O
     ensures asked { let given = arranged (joined_values (map string_bytes words.now)) in
         IfOk result (λ asked. asked_of chance given ≡ Ok (asked_by asked)) }
     ensures parsed { let given = arranged (joined_values (map string_bytes words.now)) in
-        IfOk result (λ _. faults_in given ≡ []) }
+        IfOk result (λ _. order_faults_in given ≡ []) }
     ensures fault { let given = arranged (joined_values (map string_bytes words.now)) in
-        IfErr result (FaultFits chance given) }
+        IfErr result (OrderFaultFits chance given) }
 {
     let joined = joined_values(alloc, words)?;
     let arranged = arranged(alloc, joined.as_slice())?;
@@ -305,8 +306,8 @@ fn say<T: Eprint>(rt: &T, fault: &OrderFault) -> io::Result<()> {
 /// output, with 0; out of memory, there too, with 1; anything else on standard error, with 2, also
 /// where that cannot be written. The error is that of standard output.
 pub fn report<T: Print + Eprint>(rt: &T, fault: &OrderFault) -> io::Result<u8>
-    ensures status { IfOk result (λ status. status ≡ status_of_fault fault.now) }
-    ensures bad_words { status_of_fault fault.now ≡ 2 → IsOk result }
+    ensures status { IfOk result (λ status. status ≡ status_of_order_fault fault.now) }
+    ensures bad_words { status_of_order_fault fault.now ≡ 2 → IsOk result }
 {
     let OrderFault::Clap(error) = fault else {
         let _ = say(rt, fault);

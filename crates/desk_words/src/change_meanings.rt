@@ -1,7 +1,7 @@
 // What a command asks for that changes an archive, or makes one.
 ghost use Rattle.std.specs.Prelude.{◌≡◌, ◌∷◌, List, map, string_bytes, option_map};
 ghost use Rattle.clap.specs.Words.{rows_of, found_of};
-ghost use Rattle.desk_words.specs.WordAnswers.{Gives};
+ghost use Rattle.desk_words.specs.WordAnswers.{GivesWanted};
 ghost use Rattle.desk_words.specs.OrderMeanings.{meaning_by};
 ghost use Rattle.desk_words.specs.ChangeMeanings.{change_verb_of, adding_in, some_books, adds_by};
 ghost use Rattle.desk_words.specs.ChangeMeanings.{adds_in, deletes_in, puts_by, puts_in, cuts_in};
@@ -9,7 +9,7 @@ ghost use Rattle.desk_words.specs.ChangeMeanings.{moves_in, drops_in, replaces_i
 ghost use Rattle.desk_words.specs.ChangeMeanings.{undoing_by, undoes_in, backs_up_in, restores_in};
 ghost use Rattle.desk_words.specs.ChangeMeanings.{loads_in, change_of};
 ghost use Rattle.desk_words.specs.NamedMeanings.{change_named};
-ghost use Rattle.desk_words.specs.Inside.Sorting.{texts_of};
+ghost use Rattle.desk_words.specs.Inside.Sorting.{texts_behind};
 
 use crate::asked::{Order, OrderFault};
 use crate::found::{
@@ -74,8 +74,8 @@ fn how_to_add(found: &ArgMatches) -> Adding
 
 // There is a book at least.
 fn some_books(alloc: Global, words: &[&str]) -> Result<Vec<String>, OrderFault>
-    ensures { Gives (λ books. map string_bytes books.items)
-        (some_books (texts_of words.now)) result }
+    ensures { GivesWanted (λ books. map string_bytes books.items)
+        (some_books (texts_behind words.now)) result }
 {
     match words {
         [] => Err(OrderFault::NoBooks),
@@ -85,7 +85,7 @@ fn some_books(alloc: Global, words: &[&str]) -> Result<Vec<String>, OrderFault>
 
 // New tunes alone are not taken by parts.
 fn add_by(books: Vec<String>, how: Adding) -> Result<Order, OrderFault>
-    ensures { Gives meaning_by (adds_by (map string_bytes books.items) how) result }
+    ensures { GivesWanted meaning_by (adds_by (map string_bytes books.items) how) result }
 {
     if how.only_new && how.split {
         return Err(OrderFault::NewAndSplit);
@@ -94,7 +94,7 @@ fn add_by(books: Vec<String>, how: Adding) -> Result<Order, OrderFault>
 }
 
 fn add(alloc: Global, found: &ArgMatches) -> Result<Order, OrderFault>
-    ensures { Gives meaning_by (adds_in (rows_of (found_of found.now))) result }
+    ensures { GivesWanted meaning_by (adds_in (rows_of (found_of found.now))) result }
 {
     let words = given(alloc, found, "BOOK")?;
     let books = some_books(alloc, words.as_slice())?;
@@ -102,7 +102,7 @@ fn add(alloc: Global, found: &ArgMatches) -> Result<Order, OrderFault>
 }
 
 fn delete(alloc: Global, found: &ArgMatches) -> Result<Order, OrderFault>
-    ensures { Gives meaning_by (deletes_in (rows_of (found_of found.now))) result }
+    ensures { GivesWanted meaning_by (deletes_in (rows_of (found_of found.now))) result }
 {
     let words = given(alloc, found, "NUM")?;
     let numbers = numbers(alloc, words.as_slice())?;
@@ -111,7 +111,7 @@ fn delete(alloc: Global, found: &ArgMatches) -> Result<Order, OrderFault>
 
 // What is put, by NAME and the words of NUM.
 fn put_by(alloc: Global, word: &str, words: &[&str]) -> Result<Order, OrderFault>
-    ensures { Gives meaning_by (puts_by word.now (texts_of words.now)) result }
+    ensures { GivesWanted meaning_by (puts_by word.now (texts_behind words.now)) result }
 {
     match words {
         [] => Err(OrderFault::PutAlone),
@@ -124,14 +124,14 @@ fn put_by(alloc: Global, word: &str, words: &[&str]) -> Result<Order, OrderFault
 }
 
 fn put(alloc: Global, found: &ArgMatches) -> Result<Order, OrderFault>
-    ensures { Gives meaning_by (puts_in (rows_of (found_of found.now))) result }
+    ensures { GivesWanted meaning_by (puts_in (rows_of (found_of found.now))) result }
 {
     let words = given(alloc, found, "NUM")?;
     put_by(alloc, first_given(found, "NAME"), words.as_slice())
 }
 
 fn cut(alloc: Global, found: &ArgMatches) -> Result<Order, OrderFault>
-    ensures { Gives meaning_by (cuts_in (rows_of (found_of found.now))) result }
+    ensures { GivesWanted meaning_by (cuts_in (rows_of (found_of found.now))) result }
 {
     let name = name(alloc, first_given(found, "NAME"))?;
     let words = given(alloc, found, "PLACE")?;
@@ -140,7 +140,7 @@ fn cut(alloc: Global, found: &ArgMatches) -> Result<Order, OrderFault>
 }
 
 fn move_place(alloc: Global, found: &ArgMatches) -> Result<Order, OrderFault>
-    ensures { Gives meaning_by (moves_in (rows_of (found_of found.now))) result }
+    ensures { GivesWanted meaning_by (moves_in (rows_of (found_of found.now))) result }
 {
     let name = name(alloc, first_given(found, "NAME"))?;
     let place = number(alloc, first_given(found, "PLACE"))?;
@@ -149,14 +149,14 @@ fn move_place(alloc: Global, found: &ArgMatches) -> Result<Order, OrderFault>
 }
 
 fn drop_list(alloc: Global, found: &ArgMatches) -> Result<Order, OrderFault>
-    ensures { Gives meaning_by (drops_in (rows_of (found_of found.now))) result }
+    ensures { GivesWanted meaning_by (drops_in (rows_of (found_of found.now))) result }
 {
     let name = name(alloc, first_given(found, "NAME"))?;
     Ok(Order::Alter(Alteration::Drop(name)))
 }
 
 fn replace(alloc: Global, found: &ArgMatches) -> Result<Order, OrderFault>
-    ensures { Gives meaning_by (replaces_in (rows_of (found_of found.now))) result }
+    ensures { GivesWanted meaning_by (replaces_in (rows_of (found_of found.now))) result }
 {
     let number = number(alloc, first_given(found, "NUM"))?;
     let revision = number_of(alloc, value(found, "revision"))?;
@@ -170,7 +170,7 @@ fn replace(alloc: Global, found: &ArgMatches) -> Result<Order, OrderFault>
 
 // A form is for a list.
 fn unlisted(form: Form, undoing: Undoing) -> Result<Undoing, OrderFault>
-    ensures { Gives (λ undoing. undoing) (unlisted form undoing) result }
+    ensures { GivesWanted (λ undoing. undoing) (unlisted form undoing) result }
 {
     match form {
         Form::Rows => Ok(undoing),
@@ -180,7 +180,7 @@ fn unlisted(form: Form, undoing: Undoing) -> Result<Undoing, OrderFault>
 
 // What is undone, by whether it is a list that is asked for, and by the number of `--to`.
 fn undoing_by(list: bool, to: Option<u32>, form: Form) -> Result<Undoing, OrderFault>
-    ensures { Gives (λ undoing. undoing) (undoing_by list to form) result }
+    ensures { GivesWanted (λ undoing. undoing) (undoing_by list to form) result }
 {
     match (list, to) {
         (true, Some(_)) => Err(OrderFault::ListAndTo),
@@ -191,7 +191,7 @@ fn undoing_by(list: bool, to: Option<u32>, form: Form) -> Result<Undoing, OrderF
 }
 
 fn undo(alloc: Global, found: &ArgMatches) -> Result<Order, OrderFault>
-    ensures { Gives meaning_by (undoes_in (rows_of (found_of found.now))) result }
+    ensures { GivesWanted meaning_by (undoes_in (rows_of (found_of found.now))) result }
 {
     let form = form(found)?;
     let to = number_of(alloc, value(found, "to"))?;
@@ -200,7 +200,7 @@ fn undo(alloc: Global, found: &ArgMatches) -> Result<Order, OrderFault>
 }
 
 fn backup(alloc: Global, found: &ArgMatches) -> Result<Order, OrderFault>
-    ensures { Gives meaning_by (backs_up_in (rows_of (found_of found.now))) result }
+    ensures { GivesWanted meaning_by (backs_up_in (rows_of (found_of found.now))) result }
 {
     let copy = path(alloc, first_given(found, "COPY"))?;
     let keep = number_of(alloc, value(found, "keep"))?;
@@ -208,7 +208,7 @@ fn backup(alloc: Global, found: &ArgMatches) -> Result<Order, OrderFault>
 }
 
 fn restore(alloc: Global, found: &ArgMatches) -> Result<Order, OrderFault>
-    ensures { Gives meaning_by (restores_in (rows_of (found_of found.now))) result }
+    ensures { GivesWanted meaning_by (restores_in (rows_of (found_of found.now))) result }
 {
     let copy = path(alloc, first_given(found, "COPY"))?;
     let force = is_set(found, "force");
@@ -216,14 +216,14 @@ fn restore(alloc: Global, found: &ArgMatches) -> Result<Order, OrderFault>
 }
 
 fn load(alloc: Global, found: &ArgMatches) -> Result<Order, OrderFault>
-    ensures { Gives meaning_by (loads_in (rows_of (found_of found.now))) result }
+    ensures { GivesWanted meaning_by (loads_in (rows_of (found_of found.now))) result }
 {
     let script = path(alloc, first_given(found, "SCRIPT"))?;
     Ok(Order::Load(script))
 }
 
 fn change_of(alloc: Global, verb: ChangeVerb, found: &ArgMatches) -> Result<Order, OrderFault>
-    ensures { Gives meaning_by (change_of verb (rows_of (found_of found.now))) result }
+    ensures { GivesWanted meaning_by (change_of verb (rows_of (found_of found.now))) result }
 {
     match verb {
         ChangeVerb::New => Ok(Order::Make),
@@ -248,7 +248,7 @@ pub(crate) fn change_named(
     name: &str,
     found: &ArgMatches,
 ) -> Result<Order, OrderFault>
-    ensures { Gives meaning_by (change_named name.now (rows_of (found_of found.now))) result }
+    ensures { GivesWanted meaning_by (change_named name.now (rows_of (found_of found.now))) result }
 {
     match change_verb_of(name) {
         Some(verb) => change_of(alloc, verb, found),

@@ -4,11 +4,11 @@ ghost use Rattle.clap.specs.Words.{App, app_of, new_app, new_rule, with_rule, wi
 ghost use Rattle.clap.specs.declared.builder.command.Command.TheViews.{out-Command as fields_of};
 ghost use Rattle.desk_words.specs.DeskCommands.{flag_rule, option_rule, one_rule, many_rule};
 ghost use Rattle.desk_words.specs.DeskCommands.{several_rule};
-ghost use Rattle.desk_words.specs.DeskCommands.{force_rule, out_rule, tune_rule, file_rule};
+ghost use Rattle.desk_words.specs.DeskCommands.{force_rule, out_rule, tune_rule, file_option_rule};
 ghost use Rattle.desk_words.specs.DeskCommands.{list_rules};
 ghost use Rattle.desk_words.specs.DeskCommands.{find_rules, with_rules, program_alone, desk_app};
 ghost use Rattle.desk_words.specs.DeskCommands.{with_commands, find_commands, list_commands};
-ghost use Rattle.desk_words.specs.DeskCommands.{tune_commands, other_commands};
+ghost use Rattle.desk_words.specs.DeskCommands.{commands_on_tunes, other_commands};
 ghost use Rattle.desk_words.specs.Inside.Commands.{HasApp, HasRule};
 
 use crate::asked::VERSION;
@@ -281,7 +281,7 @@ fn ask<'a>(alloc: Global) -> Command<'a>
 }
 
 fn file<'a>(alloc: Global) -> Arg<'a>
-    ensures { HasRule result file_rule }
+    ensures { HasRule result file_option_rule }
 {
     Arg::new(alloc, "file").short('f').value_name("FILE").help(
         "The archive; else it is what the variable TUNES_BOOK names",
@@ -340,7 +340,8 @@ fn with_lists<'a>(alloc: Global, command: Command<'a>) -> Result<Command<'a>, Al
 
 // The commands on tunes and books.
 fn with_tunes<'a>(alloc: Global, command: Command<'a>) -> Result<Command<'a>, AllocError>
-    ensures { IfOk result (λ all. app_of all ≡ with_commands (app_of command.entry) tune_commands) }
+    ensures { IfOk result
+        (λ all. app_of all ≡ with_commands (app_of command.entry) commands_on_tunes) }
 {
     let all = with_command(command, show(alloc))?;
     let all = with_command(all, export(alloc))?;

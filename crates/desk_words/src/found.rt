@@ -2,12 +2,12 @@
 ghost use Rattle.std.specs.Prelude.{◌≡◌, ◌++◌, IfOk, OnOk, map, string_bytes, option_map};
 ghost use Rattle.std.specs.List.{list_all};
 ghost use Rattle.clap.specs.Words.{rows_of, found_of, first_of};
-ghost use Rattle.desk_words.specs.WordAnswers.{Gives};
+ghost use Rattle.desk_words.specs.WordAnswers.{GivesWanted};
 ghost use Rattle.desk_words.specs.Given.{given, first_given, is_set, form_by, form_in, is_digits};
-ghost use Rattle.desk_words.specs.Given.{number_in, numbers_in, path_in, paths_in, name_in};
-ghost use Rattle.desk_words.specs.Given.{is_name, is_digit, is_name_byte, one_line, blank_for};
-ghost use Rattle.desk_words.specs.Given.{number_of, number_written};
-ghost use Rattle.desk_words.specs.Inside.Sorting.{texts_of};
+ghost use Rattle.desk_words.specs.Given.{number_in, numbers_given, path_in, paths_in, name_in};
+ghost use Rattle.desk_words.specs.Given.{is_name, is_digit, is_list_name_byte, one_line, blank_for};
+ghost use Rattle.desk_words.specs.Given.{number_given, number_written};
+ghost use Rattle.desk_words.specs.Inside.Sorting.{texts_behind};
 
 use crate::asked::OrderFault;
 use clap::ArgMatches;
@@ -39,7 +39,7 @@ pub(crate) fn given<'a>(
     id: &str,
 ) -> Result<Vec<&'a str>, AllocError>
     ensures { IfOk result (λ words.
-        texts_of words.items ≡ given id.now (rows_of (found_of found.now))) }
+        texts_behind words.items ≡ given id.now (rows_of (found_of found.now))) }
 {
     let mut all = Vec::new(alloc);
     match found.get_strs(id) {
@@ -53,7 +53,8 @@ pub(crate) fn given<'a>(
 
 // More words, behind those that there are.
 pub(crate) fn put_all<'a>(all: &mut Vec<&'a str>, more: &[&'a str]) -> Result<(), AllocError>
-    ensures { OnOk result (texts_of all.new.items ≡ texts_of all.old.items ++ texts_of more.now) }
+    ensures { OnOk result
+        (texts_behind all.new.items ≡ texts_behind all.old.items ++ texts_behind more.now) }
 {
     for word in more {
         all.push(*word)?;
@@ -73,7 +74,7 @@ pub(crate) fn is_set(found: &ArgMatches, id: &str) -> bool
 
 // The form of a list, by which of its two options are given.
 fn form_by(json: bool, csv: bool) -> Result<Form, OrderFault>
-    ensures { Gives (λ form. form) (form_by json csv) result }
+    ensures { GivesWanted (λ form. form) (form_by json csv) result }
 {
     match (json, csv) {
         (true, true) => Err(OrderFault::TwoForms),
@@ -85,7 +86,7 @@ fn form_by(json: bool, csv: bool) -> Result<Form, OrderFault>
 
 // The form of a list.
 pub(crate) fn form(found: &ArgMatches) -> Result<Form, OrderFault>
-    ensures { Gives (λ form. form) (form_in (rows_of (found_of found.now))) result }
+    ensures { GivesWanted (λ form. form) (form_in (rows_of (found_of found.now))) result }
 {
     form_by(is_set(found, "json"), is_set(found, "csv"))
 }
@@ -132,7 +133,7 @@ fn number_written(word: &str) -> Option<u32>
 
 // The number that a word writes.
 pub(crate) fn number(alloc: Global, word: &str) -> Result<u32, OrderFault>
-    ensures { Gives (λ number. number) (number_in word.now) result }
+    ensures { GivesWanted (λ number. number) (number_in word.now) result }
 {
     match number_written(word) {
         Some(number) => Ok(number),
@@ -145,8 +146,8 @@ pub(crate) fn number(alloc: Global, word: &str) -> Result<u32, OrderFault>
 
 // The number of an option that may be given.
 pub(crate) fn number_of(alloc: Global, word: Option<&str>) -> Result<Option<u32>, OrderFault>
-    ensures { Gives (λ number. number)
-        (number_of (option_map (λ word. word.now) word.entry)) result }
+    ensures { GivesWanted (λ number. number)
+        (number_given (option_map (λ word. word.now) word.entry)) result }
 {
     match word {
         None => Ok(None),
@@ -159,7 +160,8 @@ pub(crate) fn number_of(alloc: Global, word: Option<&str>) -> Result<Option<u32>
 
 // The numbers that words write.
 pub(crate) fn numbers(alloc: Global, words: &[&str]) -> Result<Vec<u32>, OrderFault>
-    ensures { Gives (λ numbers. numbers.items) (numbers_in (texts_of words.now)) result }
+    ensures { GivesWanted (λ numbers. numbers.items)
+        (numbers_given (texts_behind words.now)) result }
 {
     let mut all = Vec::new(alloc);
     for word in words {
@@ -171,7 +173,7 @@ pub(crate) fn numbers(alloc: Global, words: &[&str]) -> Result<Vec<u32>, OrderFa
 
 // A path.
 pub(crate) fn path(alloc: Global, word: &str) -> Result<String, OrderFault>
-    ensures { Gives string_bytes (path_in word.now) result }
+    ensures { GivesWanted string_bytes (path_in word.now) result }
 {
     if word.is_empty() {
         return Err(OrderFault::EmptyPath);
@@ -181,7 +183,8 @@ pub(crate) fn path(alloc: Global, word: &str) -> Result<String, OrderFault>
 
 // The paths.
 pub(crate) fn paths(alloc: Global, words: &[&str]) -> Result<Vec<String>, OrderFault>
-    ensures { Gives (λ paths. map string_bytes paths.items) (paths_in (texts_of words.now)) result }
+    ensures { GivesWanted (λ paths. map string_bytes paths.items)
+        (paths_in (texts_behind words.now)) result }
 {
     let mut all = Vec::new(alloc);
     for word in words {
@@ -192,7 +195,7 @@ pub(crate) fn paths(alloc: Global, words: &[&str]) -> Result<Vec<String>, OrderF
 }
 
 fn is_name_byte(byte: u8) -> bool
-    ensures { result ≡ is_name_byte byte }
+    ensures { result ≡ is_list_name_byte byte }
 {
     is_digit(byte)
         || (65 <= byte && byte <= 90)
@@ -202,7 +205,7 @@ fn is_name_byte(byte: u8) -> bool
 }
 
 fn all_name_bytes(word: &[u8]) -> bool
-    ensures { result ≡ list_all is_name_byte word.now }
+    ensures { result ≡ list_all is_list_name_byte word.now }
 {
     for byte in word {
         if !is_name_byte(*byte) {
@@ -220,7 +223,7 @@ fn is_name(word: &str) -> bool
 
 // The name of a set list.
 pub(crate) fn name(alloc: Global, word: &str) -> Result<String, OrderFault>
-    ensures { Gives string_bytes (name_in word.now) result }
+    ensures { GivesWanted string_bytes (name_in word.now) result }
 {
     let text = String::from_str(alloc, word)?;
     if is_name(word) {

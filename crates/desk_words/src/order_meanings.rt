@@ -1,7 +1,7 @@
 // What a command asks for.
 ghost use Rattle.std.specs.Prelude.{◌≡◌, map, Some, None, Ok, option_map};
 ghost use Rattle.clap.specs.Words.{rows_of, found_of};
-ghost use Rattle.desk_words.specs.WordAnswers.{Gives};
+ghost use Rattle.desk_words.specs.WordAnswers.{GivesWanted};
 ghost use Rattle.desk_words.specs.SoughtConditions.{sought_by};
 ghost use Rattle.desk_words.specs.OrderMeanings.{asking_by, place_by, meaning_by, verb_of};
 ghost use Rattle.desk_words.specs.OrderMeanings.{finds_in};
@@ -9,12 +9,12 @@ ghost use Rattle.desk_words.specs.OrderMeanings.{some_sought, counts_in, chooses
 ghost use Rattle.desk_words.specs.OrderMeanings.{set_in};
 ghost use Rattle.desk_words.specs.OrderMeanings.{shows_in, exports_by, exports_in, place_in};
 ghost use Rattle.desk_words.specs.OrderMeanings.{writing};
-ghost use Rattle.desk_words.specs.OrderMeanings.{checks_by, checks_in, drafts_in, meaning_of};
+ghost use Rattle.desk_words.specs.OrderMeanings.{checks_by, checks_in, drafts_in, order_meaning};
 ghost use Rattle.desk_words.specs.OrderMeanings.{telling};
 ghost use Rattle.desk_words.specs.OrderMeanings.{lists_titles, lists_sets, lists_twins};
 ghost use Rattle.desk_words.specs.OrderMeanings.{books_in, dumps, places_in};
 ghost use Rattle.desk_words.specs.NamedMeanings.{meaning_named};
-ghost use Rattle.desk_words.specs.Inside.Sorting.{texts_of};
+ghost use Rattle.desk_words.specs.Inside.Sorting.{texts_behind};
 
 use crate::asked::{Order, OrderFault, Target};
 use crate::change_meanings::change_named;
@@ -69,7 +69,7 @@ fn verb_of(name: &str) -> Option<Verb>
 
 // `find` asks for something.
 fn some_sought(all: Vec<Condition>) -> Result<Vec<Condition>, OrderFault>
-    ensures { Gives (λ all. map sought_by all.items)
+    ensures { GivesWanted (λ all. map sought_by all.items)
         (some_sought (map sought_by all.items)) result }
 {
     if all.is_empty() {
@@ -79,7 +79,7 @@ fn some_sought(all: Vec<Condition>) -> Result<Vec<Condition>, OrderFault>
 }
 
 fn find(alloc: Global, found: &ArgMatches) -> Result<Question, OrderFault>
-    ensures { Gives asking_by (finds_in (rows_of (found_of found.now))) result }
+    ensures { GivesWanted asking_by (finds_in (rows_of (found_of found.now))) result }
 {
     let conditions = conditions(alloc, found)?;
     let conditions = some_sought(conditions)?;
@@ -88,14 +88,14 @@ fn find(alloc: Global, found: &ArgMatches) -> Result<Question, OrderFault>
 }
 
 fn count(alloc: Global, found: &ArgMatches) -> Result<Question, OrderFault>
-    ensures { Gives asking_by (counts_in (rows_of (found_of found.now))) result }
+    ensures { GivesWanted asking_by (counts_in (rows_of (found_of found.now))) result }
 {
     let conditions = conditions(alloc, found)?;
     Ok(Question::Count(conditions))
 }
 
 fn random(alloc: Global, found: &ArgMatches, chance: u64) -> Result<Question, OrderFault>
-    ensures { Gives asking_by (chooses_in chance (rows_of (found_of found.now))) result }
+    ensures { GivesWanted asking_by (chooses_in chance (rows_of (found_of found.now))) result }
 {
     let conditions = conditions(alloc, found)?;
     let form = form(found)?;
@@ -107,21 +107,21 @@ fn random(alloc: Global, found: &ArgMatches, chance: u64) -> Result<Question, Or
 }
 
 fn titles(found: &ArgMatches) -> Result<Question, OrderFault>
-    ensures { Gives asking_by (lists_in lists_titles (rows_of (found_of found.now))) result }
+    ensures { GivesWanted asking_by (lists_in lists_titles (rows_of (found_of found.now))) result }
 {
     let form = form(found)?;
     Ok(Question::Titles(form))
 }
 
 fn sets(found: &ArgMatches) -> Result<Question, OrderFault>
-    ensures { Gives asking_by (lists_in lists_sets (rows_of (found_of found.now))) result }
+    ensures { GivesWanted asking_by (lists_in lists_sets (rows_of (found_of found.now))) result }
 {
     let form = form(found)?;
     Ok(Question::Sets(form))
 }
 
 fn set(alloc: Global, found: &ArgMatches) -> Result<Question, OrderFault>
-    ensures { Gives asking_by (set_in (rows_of (found_of found.now))) result }
+    ensures { GivesWanted asking_by (set_in (rows_of (found_of found.now))) result }
 {
     let name = name(alloc, first_given(found, "NAME"))?;
     let form = form(found)?;
@@ -129,14 +129,14 @@ fn set(alloc: Global, found: &ArgMatches) -> Result<Question, OrderFault>
 }
 
 fn twins(found: &ArgMatches) -> Result<Question, OrderFault>
-    ensures { Gives asking_by (lists_in lists_twins (rows_of (found_of found.now))) result }
+    ensures { GivesWanted asking_by (lists_in lists_twins (rows_of (found_of found.now))) result }
 {
     let form = form(found)?;
     Ok(Question::Twins(form))
 }
 
 fn show(alloc: Global, found: &ArgMatches) -> Result<Question, OrderFault>
-    ensures { Gives asking_by (shows_in (rows_of (found_of found.now))) result }
+    ensures { GivesWanted asking_by (shows_in (rows_of (found_of found.now))) result }
 {
     let words = given(alloc, found, "NUM")?;
     let numbers = numbers(alloc, words.as_slice())?;
@@ -145,8 +145,8 @@ fn show(alloc: Global, found: &ArgMatches) -> Result<Question, OrderFault>
 
 // What is exported, by NAME and by the words of `--tune`.
 fn exported_by(alloc: Global, name: Option<&str>, tunes: &[&str]) -> Result<Question, OrderFault>
-    ensures { Gives asking_by
-        (exports_by (option_map (λ word. word.now) name.entry) (texts_of tunes.now)) result }
+    ensures { GivesWanted asking_by
+        (exports_by (option_map (λ word. word.now) name.entry) (texts_behind tunes.now)) result }
 {
     match name {
         Some(word) => exported_set(alloc, word, tunes),
@@ -155,7 +155,7 @@ fn exported_by(alloc: Global, name: Option<&str>, tunes: &[&str]) -> Result<Ques
 }
 
 fn exported_set(alloc: Global, word: &str, tunes: &[&str]) -> Result<Question, OrderFault>
-    ensures { Gives asking_by (exports_by (Some word.now) (texts_of tunes.now)) result }
+    ensures { GivesWanted asking_by (exports_by (Some word.now) (texts_behind tunes.now)) result }
 {
     match tunes {
         [] => {
@@ -167,7 +167,7 @@ fn exported_set(alloc: Global, word: &str, tunes: &[&str]) -> Result<Question, O
 }
 
 fn exported_tunes(alloc: Global, tunes: &[&str]) -> Result<Question, OrderFault>
-    ensures { Gives asking_by (exports_by None (texts_of tunes.now)) result }
+    ensures { GivesWanted asking_by (exports_by None (texts_behind tunes.now)) result }
 {
     match tunes {
         [] => Ok(Question::ExportAll),
@@ -179,14 +179,14 @@ fn exported_tunes(alloc: Global, tunes: &[&str]) -> Result<Question, OrderFault>
 }
 
 fn exported(alloc: Global, found: &ArgMatches) -> Result<Question, OrderFault>
-    ensures { Gives asking_by (exports_in (rows_of (found_of found.now))) result }
+    ensures { GivesWanted asking_by (exports_in (rows_of (found_of found.now))) result }
 {
     let tunes = given(alloc, found, "tune")?;
     exported_by(alloc, value(found, "NAME"), tunes.as_slice())
 }
 
 fn target(alloc: Global, found: &ArgMatches) -> Result<Target, OrderFault>
-    ensures { Gives place_by (place_in (rows_of (found_of found.now))) result }
+    ensures { GivesWanted place_by (place_in (rows_of (found_of found.now))) result }
 {
     let out = path(alloc, first_given(found, "OUT"))?;
     let force = is_set(found, "force");
@@ -195,8 +195,8 @@ fn target(alloc: Global, found: &ArgMatches) -> Result<Target, OrderFault>
 
 // The question goes to standard output, if there is one.
 fn told(asked: Result<Question, OrderFault>) -> Result<Order, OrderFault>
-    ensures { (wanted : _) → Gives asking_by wanted asked
-        → Gives meaning_by (telling wanted) result }
+    ensures { (wanted : _) → GivesWanted asking_by wanted asked
+        → GivesWanted meaning_by (telling wanted) result }
 {
     match asked {
         Ok(question) => Ok(Order::Tell(question)),
@@ -205,7 +205,7 @@ fn told(asked: Result<Question, OrderFault>) -> Result<Order, OrderFault>
 }
 
 fn written(alloc: Global, question: Question, found: &ArgMatches) -> Result<Order, OrderFault>
-    ensures { Gives meaning_by
+    ensures { GivesWanted meaning_by
         (writing (Ok (asking_by question)) (rows_of (found_of found.now))) result }
 {
     let target = target(alloc, found)?;
@@ -214,20 +214,20 @@ fn written(alloc: Global, question: Question, found: &ArgMatches) -> Result<Orde
 
 fn export(alloc: Global, found: &ArgMatches) -> Result<Order, OrderFault>
     ensures { let rows = rows_of (found_of found.now) in
-        Gives meaning_by (writing (exports_in rows) rows) result }
+        GivesWanted meaning_by (writing (exports_in rows) rows) result }
 {
     let question = exported(alloc, found)?;
     written(alloc, question, found)
 }
 
 fn dump(alloc: Global, found: &ArgMatches) -> Result<Order, OrderFault>
-    ensures { Gives meaning_by (writing (Ok dumps) (rows_of (found_of found.now))) result }
+    ensures { GivesWanted meaning_by (writing (Ok dumps) (rows_of (found_of found.now))) result }
 {
     written(alloc, Question::Dump, found)
 }
 
 fn check_books(alloc: Global, found: &ArgMatches) -> Result<Order, OrderFault>
-    ensures { Gives meaning_by (books_in (rows_of (found_of found.now))) result }
+    ensures { GivesWanted meaning_by (books_in (rows_of (found_of found.now))) result }
 {
     let words = given(alloc, found, "BOOK")?;
     let books = paths(alloc, words.as_slice())?;
@@ -236,7 +236,7 @@ fn check_books(alloc: Global, found: &ArgMatches) -> Result<Order, OrderFault>
 
 // What is checked, by COPY.
 fn check_by(alloc: Global, word: Option<&str>) -> Result<Order, OrderFault>
-    ensures { Gives meaning_by (checks_by (option_map (λ word. word.now) word.entry)) result }
+    ensures { GivesWanted meaning_by (checks_by (option_map (λ word. word.now) word.entry)) result }
 {
     match word {
         None => Ok(Order::Check),
@@ -248,20 +248,20 @@ fn check_by(alloc: Global, word: Option<&str>) -> Result<Order, OrderFault>
 }
 
 fn check(alloc: Global, found: &ArgMatches) -> Result<Order, OrderFault>
-    ensures { Gives meaning_by (checks_in (rows_of (found_of found.now))) result }
+    ensures { GivesWanted meaning_by (checks_in (rows_of (found_of found.now))) result }
 {
     check_by(alloc, value(found, "COPY"))
 }
 
 fn place(alloc: Global, found: &ArgMatches) -> Result<Order, OrderFault>
-    ensures { Gives meaning_by (places_in (rows_of (found_of found.now))) result }
+    ensures { GivesWanted meaning_by (places_in (rows_of (found_of found.now))) result }
 {
     let target = target(alloc, found)?;
     Ok(Order::Place(target))
 }
 
 fn draft(alloc: Global, found: &ArgMatches) -> Result<Order, OrderFault>
-    ensures { Gives meaning_by (drafts_in (rows_of (found_of found.now))) result }
+    ensures { GivesWanted meaning_by (drafts_in (rows_of (found_of found.now))) result }
 {
     let number = number(alloc, first_given(found, "NUM"))?;
     let word = first_given(found, "OUT");
@@ -270,7 +270,8 @@ fn draft(alloc: Global, found: &ArgMatches) -> Result<Order, OrderFault>
 }
 
 fn order_of(alloc: Global, verb: Verb, found: &ArgMatches, chance: u64) -> Result<Order, OrderFault>
-    ensures { Gives meaning_by (meaning_of chance verb (rows_of (found_of found.now))) result }
+    ensures { GivesWanted meaning_by
+        (order_meaning chance verb (rows_of (found_of found.now))) result }
 {
     match verb {
         Verb::Find => told(find(alloc, found)),
@@ -298,7 +299,7 @@ pub(crate) fn order_named(
     found: &ArgMatches,
     chance: u64,
 ) -> Result<Order, OrderFault>
-    ensures { Gives meaning_by
+    ensures { GivesWanted meaning_by
         (meaning_named chance name.now (rows_of (found_of found.now))) result }
 {
     match verb_of(name) {

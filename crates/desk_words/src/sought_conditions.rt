@@ -3,14 +3,15 @@ ghost use Rattle.std.specs.Prelude.{◌≡◌, ◌++◌, IfOk, OnOk, map, string
 ghost use Rattle.std.specs.Prelude.{codes, true, false, [], Ok, ◌∷◌};
 ghost use Rattle.std.specs.List.{list_any};
 ghost use Rattle.clap.specs.Words.{rows_of, found_of, first_of};
-ghost use Rattle.desk_words.specs.WordAnswers.{Gives, Refuses, IsOutOfMemory};
+ghost use Rattle.desk_words.specs.WordAnswers.{GivesWanted, RefusesWords, IsFaultOfMemory};
 ghost use Rattle.desk_words.specs.Given.{given, is_set, one_line};
-ghost use Rattle.desk_words.specs.SoughtConditions.{sought_by, kind_of, of_kind, joined, by_kind};
+ghost use Rattle.desk_words.specs.SoughtConditions.{sought_by, sought_kind, of_kind, joined_words};
+ghost use Rattle.desk_words.specs.SoughtConditions.{by_kind};
 ghost use Rattle.desk_words.specs.SoughtConditions.{by_words};
 ghost use Rattle.desk_words.specs.SoughtConditions.{by_option, by_options, is_noted, key_used};
 ghost use Rattle.desk_words.specs.SoughtConditions.{sought_in};
 ghost use Rattle.desk_words.specs.SoughtConditions.{by_lines, by_plain_words};
-ghost use Rattle.desk_words.specs.Inside.Sorting.{texts_of};
+ghost use Rattle.desk_words.specs.Inside.Sorting.{texts_behind};
 
 use crate::asked::OrderFault;
 use crate::found::{given, is_set, one_line, value};
@@ -32,7 +33,7 @@ pub enum SoughtKind {
 }
 
 fn kind_of(word: &str) -> Option<SoughtKind>
-    ensures { result ≡ kind_of word.now }
+    ensures { result ≡ sought_kind word.now }
 {
     match word {
         "title" => Some(SoughtKind::Title),
@@ -90,7 +91,8 @@ fn put_word(all: &mut String, alloc: Global, word: &str) -> Result<(), AllocErro
 
 // Words with a blank between each two.
 fn joined(alloc: Global, first: &str, rest: &[&str]) -> Result<String, AllocError>
-    ensures { IfOk result (λ text. string_bytes text ≡ joined (first.now ∷ texts_of rest.now)) }
+    ensures { IfOk result
+        (λ text. string_bytes text ≡ joined_words (first.now ∷ texts_behind rest.now)) }
 {
     let mut all = one_line(alloc, first)?;
     for word in rest {
@@ -102,7 +104,7 @@ fn joined(alloc: Global, first: &str, rest: &[&str]) -> Result<String, AllocErro
 // Each word on one line.
 fn lines(alloc: Global, words: &[&str]) -> Result<Vec<String>, AllocError>
     ensures { IfOk result (λ lines.
-        map string_bytes lines.items ≡ map one_line (texts_of words.now)) }
+        map string_bytes lines.items ≡ map one_line (texts_behind words.now)) }
 {
     let mut all = Vec::new(alloc);
     for word in words {
@@ -119,8 +121,8 @@ fn by_kind(
     word: &str,
     rest: &[&str],
 ) -> Result<Condition, OrderFault>
-    ensures { Gives sought_by (by_kind (kind_of word.now)
-        (option_map (λ word. word.now) key.entry) word.now (texts_of rest.now)) result }
+    ensures { GivesWanted sought_by (by_kind (sought_kind word.now)
+        (option_map (λ word. word.now) key.entry) word.now (texts_behind rest.now)) result }
 {
     match kind_of(word) {
         None => {
@@ -140,8 +142,8 @@ fn by_kind(
 
 // The words under `--within`.
 fn by_lines(alloc: Global, words: &[&str]) -> Result<Vec<Condition>, OrderFault>
-    ensures { Gives (λ all. map sought_by all.items)
-        (by_lines (texts_of words.now)) result }
+    ensures { GivesWanted (λ all. map sought_by all.items)
+        (by_lines (texts_behind words.now)) result }
 {
     let mut all = Vec::new(alloc);
     if words.is_empty() {
@@ -158,8 +160,8 @@ fn by_plain_words(
     key: Option<&str>,
     words: &[&str],
 ) -> Result<Vec<Condition>, OrderFault>
-    ensures { Gives (λ all. map sought_by all.items) (by_plain_words
-        (option_map (λ word. word.now) key.entry) (texts_of words.now)) result }
+    ensures { GivesWanted (λ all. map sought_by all.items) (by_plain_words
+        (option_map (λ word. word.now) key.entry) (texts_behind words.now)) result }
 {
     let mut all = Vec::new(alloc);
     match words {
@@ -233,7 +235,7 @@ fn has_notes(all: &[Condition]) -> bool
 
 // A key is for notes.
 fn key_used(key: Option<&str>, all: Vec<Condition>) -> Result<Vec<Condition>, OrderFault>
-    ensures { Gives (λ all. map sought_by all.items)
+    ensures { GivesWanted (λ all. map sought_by all.items)
         (key_used (option_map (λ word. word.now) key.entry) (map sought_by all.items)) result }
 {
     if key.is_some() && !has_notes(all.as_slice()) {
@@ -248,7 +250,8 @@ fn by_all_words(
     key: Option<&str>,
     found: &ArgMatches,
 ) -> Result<Vec<Condition>, OrderFault>
-    ensures { let rows = rows_of (found_of found.now) in Gives (λ all. map sought_by all.items)
+    ensures { let rows = rows_of (found_of found.now) in GivesWanted
+        (λ all. map sought_by all.items)
         (by_words (is_set (codes "within") rows) (option_map (λ word. word.now) key.entry)
         (given (codes "WORDS") rows)) result }
 {
@@ -262,7 +265,7 @@ fn by_all_words(
 
 // All that a tune is to have: what the words say first, then the options.
 pub(crate) fn conditions(alloc: Global, found: &ArgMatches) -> Result<Vec<Condition>, OrderFault>
-    ensures { Gives (λ all. map sought_by all.items)
+    ensures { GivesWanted (λ all. map sought_by all.items)
         (sought_in (rows_of (found_of found.now))) result }
 {
     let key = value(found, "in");

@@ -3,7 +3,7 @@ use Rattle.std.proofs.Common.{◌≡◌, ℕ, zero, suc, ◌+◌, ◌*◌, ◌<�
 use Rattle.std.specs.List.{Contains}
 use Rattle.std.specs.Prelude.{◌==◌}
 use Rattle.std.proofs.lemmas.Bool.{eqb-true, eq-eqb}
-use Rattle.index_keys.specs.Entries.{Entry, rank, RisesFrom, IsRising}
+use Rattle.index_keys.specs.Entries.{Entry, rank, EntriesRiseFrom, IsRising}
 use Rattle.index_keys.specs.Holdings.{HaveOwnNumbers, HoldsEntries, HoldsByNumber, keys_at}
 use Rattle.index_keys.specs.KeyLists.{KeysRise}
 use Rattle.index_keys.proofs.Members.{contains_first, contains_later, contains_cases, contains_none, contains_map, contains_kept, contains_source}
@@ -30,7 +30,7 @@ above_next : (number low key next : ℕ) → Above number low key → low ≤ ne
 above_next number low zero next a le = tt
 above_next number low (suc key) next a le = omega arith
 
-keys_at_rise : (number low key : ℕ) (es : List Entry) → RisesFrom low es → Above number low key → KeysRise key (keys_at number es)
+keys_at_rise : (number low key : ℕ) (es : List Entry) → EntriesRiseFrom low es → Above number low key → KeysRise key (keys_at number es)
 keys_at_rise number low key [] rises a = tt
 keys_at_rise number low key (e ∷ es) rises a = elim (true_or_false (e.1 == number)) [
   | inl is ↦

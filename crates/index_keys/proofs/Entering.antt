@@ -2,7 +2,7 @@
 use Rattle.std.proofs.Common.{◌≡◌, ◌≢◌, ℕ, ◌+◌, ◌*◌, ◌^◌, ◌<◌, ◌≤◌, ◌⊎◌, List, [], ◌∷◌, sym, ap, ◌∙◌, arith, inl, inr, subst}
 use Rattle.std.specs.List.{Contains}
 use Rattle.std.proofs.lemmas.Bool.{cases_lt, cases_eq}
-use Rattle.index_keys.specs.Entries.{Entry, rank, RisesFrom, IsRising, inserted, inserted_all, removed, removed_all}
+use Rattle.index_keys.specs.Entries.{Entry, rank, EntriesRiseFrom, IsRising, entry_inserted, inserted_all, removed, removed_all}
 use Rattle.index_keys.proofs.Members.{contains_first, contains_later, contains_cases, contains_none}
 use Rattle.index_keys.proofs.RisingEntries.{inserted_front, inserted_later, inserted_there, removed_there, removed_later, removed-rises}
 
@@ -24,37 +24,37 @@ rank_same (k, v) (l, w) a b e =
     ap (λ (z : ℕ). (z, v)) f ∙ ap (λ (z : ℕ). (l, z)) s
 
 -- ONE ENTRY PUT IN
-put_old : (e : Entry) (es : List Entry) (x : Entry) → Contains es x → Contains (inserted e es) x
+put_old : (e : Entry) (es : List Entry) (x : Entry) → Contains es x → Contains (entry_inserted e es) x
 put_old e [] x h = absurd (contains_none x h)
 put_old e (y ∷ ys) x h = elim (cases_lt (rank e) (rank y)) [
   | inl front ↦ rw (inserted_front e y ys front) (contains_later e (y ∷ ys) x h)
   | inr rest ↦ elim (cases_lt (rank y) (rank e)) [
     | inl later ↦ rw (inserted_later e y ys later) (elim (contains_cases y ys x h) [
-      | inl here ↦ subst (λ (z : Entry). Contains (y ∷ inserted e ys) z) here (contains_first y (inserted e ys))
-      | inr l ↦ contains_later y (inserted e ys) x (put_old e ys x l)
+      | inl here ↦ subst (λ (z : Entry). Contains (y ∷ entry_inserted e ys) z) here (contains_first y (entry_inserted e ys))
+      | inr l ↦ contains_later y (entry_inserted e ys) x (put_old e ys x l)
     ])
     | inr there ↦ rw (inserted_there e y ys (omega arith)) h
   ]
 ]
 
-put_new : (e : Entry) (es : List Entry) → e.1 < 2 ^ 32 → SmallValues es → Contains (inserted e es) e
+put_new : (e : Entry) (es : List Entry) → e.1 < 2 ^ 32 → SmallValues es → Contains (entry_inserted e es) e
 put_new e [] v s = contains_first e []
 put_new e (y ∷ ys) v s = elim (cases_lt (rank e) (rank y)) [
   | inl front ↦ rw (inserted_front e y ys front) (contains_first e (y ∷ ys))
   | inr rest ↦ elim (cases_lt (rank y) (rank e)) [
-    | inl later ↦ rw (inserted_later e y ys later) (contains_later y (inserted e ys) e (put_new e ys v (λ x h. s x (contains_later y ys x h))))
+    | inl later ↦ rw (inserted_later e y ys later) (contains_later y (entry_inserted e ys) e (put_new e ys v (λ x h. s x (contains_later y ys x h))))
     | inr there ↦
         let same : y ≡ e = rank_same y e (s y (contains_first y ys)) v (omega arith) in
         rw (inserted_there e y ys (omega arith)) (subst (λ (z : Entry). Contains (y ∷ ys) z) same (contains_first y ys))
   ]
 ]
 
-put_back : (e : Entry) (es : List Entry) (x : Entry) → Contains (inserted e es) x → (e ≡ x) ⊎ Contains es x
+put_back : (e : Entry) (es : List Entry) (x : Entry) → Contains (entry_inserted e es) x → (e ≡ x) ⊎ Contains es x
 put_back e [] x h = elim (contains_cases e [] x h) [ inl s ↦ inl s | inr n ↦ absurd (contains_none x n) ]
 put_back e (y ∷ ys) x h = elim (cases_lt (rank e) (rank y)) [
   | inl front ↦ contains_cases e (y ∷ ys) x (rw (inserted_front e y ys front) at h)
   | inr rest ↦ elim (cases_lt (rank y) (rank e)) [
-    | inl later ↦ elim (contains_cases y (inserted e ys) x (rw (inserted_later e y ys later) at h)) [
+    | inl later ↦ elim (contains_cases y (entry_inserted e ys) x (rw (inserted_later e y ys later) at h)) [
       | inl here ↦ inr (subst (λ (z : Entry). Contains (y ∷ ys) z) here (contains_first y ys))
       | inr l ↦ elim (put_back e ys x l) [ inl s ↦ inl s | inr m ↦ inr (contains_later y ys x m) ]
     ]
@@ -62,26 +62,26 @@ put_back e (y ∷ ys) x h = elim (cases_lt (rank e) (rank y)) [
   ]
 ]
 
-put_small : (e : Entry) (es : List Entry) → e.1 < 2 ^ 32 → SmallValues es → SmallValues (inserted e es)
+put_small : (e : Entry) (es : List Entry) → e.1 < 2 ^ 32 → SmallValues es → SmallValues (entry_inserted e es)
 put_small e es v s x h = elim (put_back e es x h) [ inl here ↦ subst (λ (z : Entry). z.1 < 2 ^ 32) here v | inr old ↦ s x old ]
 
 -- A RUN PUT IN
 pub all_old : (run es : List Entry) (x : Entry) → Contains es x → Contains (inserted_all run es) x
 all_old [] es x h = h
-all_old (e ∷ run) es x h = all_old run (inserted e es) x (put_old e es x h)
+all_old (e ∷ run) es x h = all_old run (entry_inserted e es) x (put_old e es x h)
 
 pub all_new : (run es : List Entry) (x : Entry) → SmallValues run → SmallValues es → Contains run x → Contains (inserted_all run es) x
 all_new [] es x r s h = absurd (contains_none x h)
 all_new (e ∷ run) es x r s h =
     let v : e.1 < 2 ^ 32 = r e (contains_first e run) in
     elim (contains_cases e run x h) [
-      | inl here ↦ all_old run (inserted e es) x (subst (λ (z : Entry). Contains (inserted e es) z) here (put_new e es v s))
-      | inr l ↦ all_new run (inserted e es) x (λ y k. r y (contains_later e run y k)) (put_small e es v s) l
+      | inl here ↦ all_old run (entry_inserted e es) x (subst (λ (z : Entry). Contains (entry_inserted e es) z) here (put_new e es v s))
+      | inr l ↦ all_new run (entry_inserted e es) x (λ y k. r y (contains_later e run y k)) (put_small e es v s) l
     ]
 
 pub all_back : (run es : List Entry) (x : Entry) → Contains (inserted_all run es) x → Contains run x ⊎ Contains es x
 all_back [] es x h = inr h
-all_back (e ∷ run) es x h = elim (all_back run (inserted e es) x h) [
+all_back (e ∷ run) es x h = elim (all_back run (entry_inserted e es) x h) [
   | inl r ↦ inl (contains_later e run x r)
   | inr m ↦ elim (put_back e es x m) [ inl s ↦ inl (subst (λ (z : Entry). Contains (e ∷ run) z) s (contains_first e run)) | inr o ↦ inr o ]
 ]
@@ -110,14 +110,14 @@ take_back e (y ∷ ys) x h = elim (cases_eq (rank y) (rank e)) [
   ]
 ]
 
-over : (low : ℕ) (es : List Entry) (x : Entry) → RisesFrom low es → Contains es x → low ≤ rank x
+over : (low : ℕ) (es : List Entry) (x : Entry) → EntriesRiseFrom low es → Contains es x → low ≤ rank x
 over low [] x r h = absurd (contains_none x h)
 over low (y ∷ ys) x r h = elim (contains_cases y ys x h) [
   | inl here ↦ subst (λ (z : Entry). low ≤ rank z) here r.0
   | inr l ↦ let o = over (rank y + 1) ys x r.1 l in let b = r.0 in omega arith
 ]
 
-take_gone : (low : ℕ) (e : Entry) (es : List Entry) → RisesFrom low es → Contains (removed e es) e → ⊥
+take_gone : (low : ℕ) (e : Entry) (es : List Entry) → EntriesRiseFrom low es → Contains (removed e es) e → ⊥
 take_gone low e [] r h = contains_none e h
 take_gone low e (y ∷ ys) r h = elim (cases_eq (rank y) (rank e)) [
   | inl there ↦ let o = over (rank y + 1) ys e r.1 (rw (removed_there e y ys there) at h) in omega arith

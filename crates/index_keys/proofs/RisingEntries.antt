@@ -2,47 +2,48 @@
 use Rattle.std.proofs.Common.{◌≡◌, ◌≢◌, ℕ, zero, suc, ◌+◌, ◌<◌, ◌≤◌, List, [], ◌∷◌, ◌++◌, length, get_or, arith, ap, subst, inl, inr}
 use Rattle.std.proofs.lemmas.Bool.{cases_lt, cases_eq}
 use Rattle.std.proofs.lemmas.Bool.Decides.{nat_tests}
-use Rattle.index_keys.specs.Entries.{Entry, rank, RisesFrom, IsRising, inserted, inserted_all, removed, removed_all, FitsLeaf, AllFit}
+use Rattle.index_keys.specs.Entries.{Entry, rank, EntriesRiseFrom, IsRising, entry_inserted, inserted_all, removed, removed_all, FitsLeaf, AllFit}
 
 -- a list that rises from one place on rises from a lower one on
-pub rises_lower : (low high : ℕ) (es : List Entry) → low ≤ high → RisesFrom high es → RisesFrom low es
+pub rises_lower : (low high : ℕ) (es : List Entry) → low ≤ high → EntriesRiseFrom high es → EntriesRiseFrom low es
 rises_lower low high [] h r = tt
 rises_lower low high (e ∷ es) h r = (omega arith, r.1)
 
 -- an entry further on does not stand before the place
-pub rises_middle : (low : ℕ) (xs : List Entry) (y : Entry) (ys : List Entry) → RisesFrom low (xs ++ y ∷ ys) → low ≤ rank y
+pub rises_middle : (low : ℕ) (xs : List Entry) (y : Entry) (ys : List Entry) → EntriesRiseFrom low (xs ++ y ∷ ys) → low ≤ rank y
 rises_middle low [] y ys r = r.0
 rises_middle low (x ∷ xs) y ys r = let m = rises_middle (rank x + 1) xs y ys r.1 in omega (arith, m, r.0)
 
 -- an element further on
-pub rises_at : (low : ℕ) (es : List Entry) (i : ℕ) (d : Entry) → RisesFrom low es → i < length es → low ≤ rank (get_or es i d)
+pub rises_at : (low : ℕ) (es : List Entry) (i : ℕ) (d : Entry) → EntriesRiseFrom low es → i < length es → low ≤ rank (get_or es i d)
 rises_at low [] i d r l = absurd (omega arith)
 rises_at low (e ∷ es) zero d r l = r.0
 rises_at low (e ∷ es) (suc i) d r l = let m = rises_at (rank e + 1) es i d r.1 (omega arith) in omega (arith, m, r.0)
 
-pub rises_pair : (low : ℕ) (es : List Entry) (i j : ℕ) (d : Entry) → RisesFrom low es → i < j → j < length es → rank (get_or es i d) < rank (get_or es j d)
+pub rises_pair : (low : ℕ) (es : List Entry) (i j : ℕ) (d : Entry) → EntriesRiseFrom low es → i < j → j < length es
+    → rank (get_or es i d) < rank (get_or es j d)
 rises_pair low [] i j d r l m = absurd (omega arith)
 rises_pair low (e ∷ es) i zero d r l m = absurd (omega arith)
 rises_pair low (e ∷ es) zero (suc j) d r l m = let a = rises_at (rank e + 1) es j d r.1 (omega arith) in omega (arith, a)
 rises_pair low (e ∷ es) (suc i) (suc j) d r l m = rises_pair (rank e + 1) es i j d r.1 (omega arith) (omega arith)
 
 -- the front of a list that rises, and the rest of it
-pub rises_front : (low : ℕ) (xs ys : List Entry) → RisesFrom low (xs ++ ys) → RisesFrom low xs
+pub rises_front : (low : ℕ) (xs ys : List Entry) → EntriesRiseFrom low (xs ++ ys) → EntriesRiseFrom low xs
 rises_front low [] ys r = tt
 rises_front low (x ∷ xs) ys r = (r.0, rises_front (rank x + 1) xs ys r.1)
 
-pub rises_back : (low : ℕ) (xs ys : List Entry) → RisesFrom low (xs ++ ys) → RisesFrom low ys
+pub rises_back : (low : ℕ) (xs ys : List Entry) → EntriesRiseFrom low (xs ++ ys) → EntriesRiseFrom low ys
 rises_back low [] ys r = r
 rises_back low (x ∷ xs) ys r = rises_lower low (rank x + 1) ys (let h = r.0 in omega arith) (rises_back (rank x + 1) xs ys r.1)
 
--- the three cases of `inserted` at the front
-pub inserted_front : (e x : Entry) (xs : List Entry) → rank e < rank x → inserted e (x ∷ xs) ≡ e ∷ x ∷ xs
+-- the three cases of `entry_inserted` at the front
+pub inserted_front : (e x : Entry) (xs : List Entry) → rank e < rank x → entry_inserted e (x ∷ xs) ≡ e ∷ x ∷ xs
 inserted_front e x xs h = grind (arith, nat_tests)
 
-pub inserted_later : (e x : Entry) (xs : List Entry) → rank x < rank e → inserted e (x ∷ xs) ≡ x ∷ inserted e xs
+pub inserted_later : (e x : Entry) (xs : List Entry) → rank x < rank e → entry_inserted e (x ∷ xs) ≡ x ∷ entry_inserted e xs
 inserted_later e x xs h = grind (arith, nat_tests)
 
-pub inserted_there : (e x : Entry) (xs : List Entry) → rank x ≡ rank e → inserted e (x ∷ xs) ≡ x ∷ xs
+pub inserted_there : (e x : Entry) (xs : List Entry) → rank x ≡ rank e → entry_inserted e (x ∷ xs) ≡ x ∷ xs
 inserted_there e x xs h = grind (arith, nat_tests)
 
 -- the two cases of `removed`
@@ -53,7 +54,7 @@ pub removed_later : (e x : Entry) (xs : List Entry) → rank x ≢ rank e → re
 removed_later e x xs h = grind (arith, nat_tests)
 
 -- an entry put into a list that rises leaves one
-pub inserted-rises : (low : ℕ) (es : List Entry) (e : Entry) → RisesFrom low es → low ≤ rank e → RisesFrom low (inserted e es)
+pub inserted-rises : (low : ℕ) (es : List Entry) (e : Entry) → EntriesRiseFrom low es → low ≤ rank e → EntriesRiseFrom low (entry_inserted e es)
 inserted-rises low [] e r l = (l, tt)
 inserted-rises low (x ∷ xs) e r l = elim (cases_lt (rank e) (rank x)) [
   | inl front ↦ rw (inserted_front e x xs front) (l, (omega arith, r.1))
@@ -63,7 +64,7 @@ inserted-rises low (x ∷ xs) e r l = elim (cases_lt (rank e) (rank x)) [
   ]
 ]
 
-pub removed-rises : (low : ℕ) (es : List Entry) (e : Entry) → RisesFrom low es → RisesFrom low (removed e es)
+pub removed-rises : (low : ℕ) (es : List Entry) (e : Entry) → EntriesRiseFrom low es → EntriesRiseFrom low (removed e es)
 removed-rises low [] e r = tt
 removed-rises low (x ∷ xs) e r = elim (cases_eq (rank x) (rank e)) [
   | inl there ↦ rw (removed_there e x xs there) (rises_lower low (rank x + 1) xs (let h = r.0 in omega arith) r.1)
@@ -73,14 +74,14 @@ removed-rises low (x ∷ xs) e r = elim (cases_eq (rank x) (rank e)) [
 -- a run put in or taken out leaves a list that rises
 pub inserted_all_rises : (run es : List Entry) → IsRising es → IsRising (inserted_all run es)
 inserted_all_rises [] es up = up
-inserted_all_rises (e ∷ run) es up = inserted_all_rises run (inserted e es) (inserted-rises 0 es e up (omega arith))
+inserted_all_rises (e ∷ run) es up = inserted_all_rises run (entry_inserted e es) (inserted-rises 0 es e up (omega arith))
 
 pub removed_all_rises : (run es : List Entry) → IsRising es → IsRising (removed_all run es)
 removed_all_rises [] es up = up
 removed_all_rises (e ∷ run) es up = removed_all_rises run (removed e es) (removed-rises 0 es e up)
 
 -- and one whose entries fit
-pub inserted-fit : (width : ℕ) (es : List Entry) (e : Entry) → AllFit width es → FitsLeaf width e → AllFit width (inserted e es)
+pub inserted-fit : (width : ℕ) (es : List Entry) (e : Entry) → AllFit width es → FitsLeaf width e → AllFit width (entry_inserted e es)
 inserted-fit width [] e f k = (k, tt)
 inserted-fit width (x ∷ xs) e f k = elim (cases_lt (rank e) (rank x)) [
   | inl front ↦ rw (inserted_front e x xs front) (k, f)
@@ -99,18 +100,18 @@ removed_fit width (x ∷ xs) e f = elim (cases_eq (rank x) (rank e)) [
 
 pub inserted_all_fit : (width : ℕ) (run es : List Entry) → AllFit width run → AllFit width es → AllFit width (inserted_all run es)
 inserted_all_fit width [] es f h = h
-inserted_all_fit width (e ∷ run) es f h = inserted_all_fit width run (inserted e es) f.1 (inserted-fit width es e h f.0)
+inserted_all_fit width (e ∷ run) es f h = inserted_all_fit width run (entry_inserted e es) f.1 (inserted-fit width es e h f.0)
 
 pub removed_all_fit : (width : ℕ) (run es : List Entry) → AllFit width es → AllFit width (removed_all run es)
 removed_all_fit width [] es h = h
 removed_all_fit width (e ∷ run) es h = removed_all_fit width run (removed e es) (removed_fit width es e h)
 
-push_up : (low : ℕ) (x : Entry) (es : List Entry) (e d : Entry) → RisesFrom low (x ∷ es) → rank (get_or (x ∷ es) (length es) d) < rank e
-    → RisesFrom low (x ∷ (es ++ e ∷ []))
+push_up : (low : ℕ) (x : Entry) (es : List Entry) (e d : Entry) → EntriesRiseFrom low (x ∷ es) → rank (get_or (x ∷ es) (length es) d) < rank e
+    → EntriesRiseFrom low (x ∷ (es ++ e ∷ []))
 push_up low x [] e d r l = (r.0, (omega (arith, l), tt))
 push_up low x (y ∷ es) e d r l = (r.0, push_up (rank x + 1) y es e d r.1 l)
 
-push_down : (low : ℕ) (x : Entry) (es : List Entry) (e d : Entry) → RisesFrom low (x ∷ (es ++ e ∷ [])) → rank (get_or (x ∷ es) (length es) d) < rank e
+push_down : (low : ℕ) (x : Entry) (es : List Entry) (e d : Entry) → EntriesRiseFrom low (x ∷ (es ++ e ∷ [])) → rank (get_or (x ∷ es) (length es) d) < rank e
 push_down low x [] e d r = omega (arith, r.1.0)
 push_down low x (y ∷ es) e d r = push_down (rank x + 1) y es e d r.1
 

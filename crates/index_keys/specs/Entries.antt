@@ -12,25 +12,25 @@ rank (key, value) = key * 2 ^ 32 + value
 
 -- ENTRIES IN ORDER
 -- the entries rise strictly by key and then value, from this rank on
-abbrev pub RisesFrom : ℕ → List Entry → Type 0
-RisesFrom low [] = Unit {0}
-RisesFrom low (e ∷ es) = (low ≤ rank e) × RisesFrom (rank e + 1) es
+abbrev pub EntriesRiseFrom : ℕ → List Entry → Type 0
+EntriesRiseFrom low [] = Unit {0}
+EntriesRiseFrom low (e ∷ es) = (low ≤ rank e) × EntriesRiseFrom (rank e + 1) es
 
 -- the entries rise strictly by key and then value
 abbrev pub IsRising : List Entry → Type 0
-IsRising es = RisesFrom 0 es
+IsRising es = EntriesRiseFrom 0 es
 
 -- the list with the entry in its place; an entry that is there stays
-abbrev pub inserted : Entry → List Entry → List Entry
-inserted e [] = e ∷ []
-inserted e (x ∷ xs) =
+abbrev pub entry_inserted : Entry → List Entry → List Entry
+entry_inserted e [] = e ∷ []
+entry_inserted e (x ∷ xs) =
     if nat_lt (rank e) (rank x) then e ∷ x ∷ xs
-    else (if nat_lt (rank x) (rank e) then x ∷ inserted e xs else x ∷ xs)
+    else (if nat_lt (rank x) (rank e) then x ∷ entry_inserted e xs else x ∷ xs)
 
 -- the list with all these entries in their places
 abbrev pub inserted_all : List Entry → List Entry → List Entry
 inserted_all [] es = es
-inserted_all (e ∷ run) es = inserted_all run (inserted e es)
+inserted_all (e ∷ run) es = inserted_all run (entry_inserted e es)
 
 -- the list without the entry
 abbrev pub removed : Entry → List Entry → List Entry

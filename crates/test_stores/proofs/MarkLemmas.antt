@@ -12,7 +12,7 @@ use Rattle.tune_store.proofs.StepLemmas.{answers_reach}
 use Rattle.tune_archive.specs.Media.{moment_of, LeftAt, LeftFrom}
 use Rattle.tune_archive.proofs.Called.{failed}
 use Rattle.tune_archive.proofs.DiskMoments.{passes_on_disk}
-use Rattle.test_stores.specs.Marks.{IsMark, IsMarked}
+use Rattle.test_stores.specs.Marks.{IsMarkFile, IsMarked}
 use Rattle.test_stores.specs.Inside.Marks.{StaysMark, LeavesMarks}
 
 -- THE DISK
@@ -67,10 +67,10 @@ pub passes_marks : {S : Type 0} (honest : S → Type 0) (disk : S → DiskState)
       moment = λ s. moment_of (disk s);
       left_at = λ s. LeftAt (disk s);
       left_since = λ s. LeftFrom (disk s);
-      stands_for = IsMark;
+      stands_for = IsMarkFile;
     }) old new states
 passes_marks honest disk state old new states was marks among limits =
-    passes_on_disk honest (λ s. IsMarked (honest s) (disk s) (state s)) state disk IsMark old new states (StaysMark (disk old)) among was
+    passes_on_disk honest (λ s. IsMarked (honest s) (disk s) (state s)) state disk IsMarkFile old new states (StaysMark (disk old)) among was
     (λ sound. record { mark = λ h. (marks h).now (sound.mark (was h)); within = limits sound.within })
     (λ h. inr (marks h).since) (λ sound h file stays. inl (stays (sound.mark (was h))))
 

@@ -5,11 +5,11 @@ use Rattle.std.proofs.lemmas.List.{get_or_append_left, get_or_push}
 use Rattle.tune_store.specs.State.{State, IsState}
 use Rattle.tune_store.specs.StoreStops.{Among, StandsForOne}
 use Rattle.tune_store.proofs.StopLemmas.{stands_among}
-use Rattle.test_stores.specs.Record.{LeftSince, IsOfCount, EndsAt, IsRecorded, last_place}
+use Rattle.test_stores.specs.Record.{LeftSince, IsOfCount, EndsAtCount, IsRecorded, last_place}
 
 -- RECORDS
 -- a record ends at a state after an entry of how many tunes it has
-ends_push : (entries : List ℕ) (number : ℕ) (state : State) → length state.tunes ≡ number → EndsAt (entries ++ number ∷ []) state
+ends_push : (entries : List ℕ) (number : ℕ) (state : State) → length state.tunes ≡ number → EndsAtCount (entries ++ number ∷ []) state
 ends_push entries number state e = get_or_push entries number 0 _ (omega (arith, length-append entries (number ∷ []))) ∙ sym e
 
 -- a file of a record with one more entry is one of the record, or of the entry

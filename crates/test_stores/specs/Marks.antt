@@ -4,8 +4,8 @@ use Rattle.tune_disk.specs.Disk.{DiskState}
 use Rattle.tune_store.specs.State.{State, IsState}
 
 -- the file is a mark of at most one byte, whatever the state is
-abbrev pub IsMark : List ℕ → State → Type 0
-IsMark file state = length file ≤ 1
+abbrev pub IsMarkFile : List ℕ → State → Type 0
+IsMarkFile file state = length file ≤ 1
 
 -- a stop now leaves a mark, where the disk is honest, and the state is within the limits
 pub record IsMarked (honest : Type 0) (disk : DiskState) (state : State) : Type 0 where

@@ -18,10 +18,10 @@ abbrev pub IsOfCount : List ℕ → State → Type 0
 IsOfCount file state = file ≡ length state.tunes ∷ []
 
 -- the last entry is how many tunes the state has
-abbrev pub EndsAt : List ℕ → State → Type 0
-EndsAt entries state = slice_index entries (last_place entries) ≡ length state.tunes
+abbrev pub EndsAtCount : List ℕ → State → Type 0
+EndsAtCount entries state = slice_index entries (last_place entries) ≡ length state.tunes
 
 -- a record that ends at a state within the limits
 pub record IsRecorded (entries : List ℕ) (state : State) : Type 0 where
-  pub ends : EndsAt entries state
+  pub ends : EndsAtCount entries state
   pub within : IsState state

@@ -3,7 +3,7 @@ ghost use Rattle.std.specs.Prelude.{◌≡◌, ◌≤◌, false, OnErr};
 ghost use Rattle.tune_store.specs.State.{State, empty_state};
 ghost use Rattle.tune_store.specs.StoreStops.{HasFailed};
 ghost use Rattle.tune_archive.specs.Media.{moment_of, LeftAt, LeftFrom};
-ghost use Rattle.test_stores.specs.Marks.{IsMark, IsMarked};
+ghost use Rattle.test_stores.specs.Marks.{IsMarkFile, IsMarked};
 ghost use Rattle.test_stores.specs.Inside.Marks.{LeavesMarks};
 
 use crate::keeping::changes_nothing;
@@ -59,7 +59,7 @@ impl<D: Disk> TuneStore for DiskStore<D> {
 
     ghost left_since = { λ store. LeftFrom (D.Disk.state store.disk) };
 
-    ghost stands_for = { IsMark };
+    ghost stands_for = { IsMarkFile };
 
     ghost settled = { λ store file sound honest is_open left.
         le_trans (left_now (D.Disk.state store.disk) file left).no_longer (sound.mark honest) };

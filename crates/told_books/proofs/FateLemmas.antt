@@ -12,7 +12,7 @@ use Rattle.abc_fields.proofs.LineOffsets.{spans_have_lines}
 use Rattle.abc_fields.proofs.RuleSums.{joined-length}
 use Rattle.abc_fields.specs.Tunes.{is_empty_line, is_tune_start, joined}
 use Rattle.abc_fields.specs.declared.carry_rules.CarryRule.TheVariants.{Never}
-use Rattle.told_books.specs.Fates.{some_carries, tunes_at, stand_after, after_empty, after_other}
+use Rattle.told_books.specs.Fates.{some_carries, tunes_begun, stand_after, after_empty, after_other}
 use Rattle.told_books.specs.FateLines.{DroppedRow, dropped_from}
 use Rattle.told_books.specs.declared.fates.Fate.{Fate}
 use Rattle.told_books.specs.declared.fates.Stand.{Stand}
@@ -23,24 +23,24 @@ pub never_carried : (runs : List (List (List ℕ))) → some_carries runs Never 
 never_carried [] = refl
 never_carried (run ∷ runs) = never_carried runs
 
-pub at_empty : (stand : Stand) → tunes_at (after_empty stand) ≡ tunes_at stand
+pub at_empty : (stand : Stand) → tunes_begun (after_empty stand) ≡ tunes_begun stand
 at_empty Front = refl
 at_empty (Header above) = refl
 at_empty (Tune number) = refl
 at_empty (Outside tunes) = refl
 
-pub at_other : (stand : Stand) (line : List ℕ) → tunes_at (after_other stand line) ≡ tunes_at stand
+pub at_other : (stand : Stand) (line : List ℕ) → tunes_begun (after_other stand line) ≡ tunes_begun stand
 at_other Front line = refl
 at_other (Header above) line = refl
 at_other (Tune number) line = refl
 at_other (Outside tunes) line = refl
 
 -- a line begins at most one tune
-pub one_more : (stand : Stand) (line : List ℕ) → tunes_at (stand_after stand line) ≤ tunes_at stand + 1
+pub one_more : (stand : Stand) (line : List ℕ) → tunes_begun (stand_after stand line) ≤ tunes_begun stand + 1
 one_more stand line =
-    let P : Stand → Type 0 = λ s. tunes_at s ≤ tunes_at stand + 1 in
+    let P : Stand → Type 0 = λ s. tunes_begun s ≤ tunes_begun stand + 1 in
     cond_both (is_empty_line line) (after_empty stand) _ P (λ empty. omega (arith, at_empty stand))
-    (λ some. cond_both (is_tune_start line) (Tune (tunes_at stand + 1)) (after_other stand line) P (λ starts. omega arith)
+    (λ some. cond_both (is_tune_start line) (Tune (tunes_begun stand + 1)) (after_other stand line) P (λ starts. omega arith)
     (λ other. omega (arith, at_other stand line)))
 
 dropped_none : (number : ℕ) (fates : List Fate) → dropped_from number fates [] ≡ []

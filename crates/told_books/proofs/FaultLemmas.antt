@@ -9,21 +9,21 @@ use Rattle.abc_fields.specs.FileHeaders.{with_header, has_letter, carried}
 use Rattle.abc_fields.specs.declared.book.TuneFault.TheVariants.{NoKey, TooLong}
 use Rattle.abc_fields.specs.declared.carry_rules.CarryRule.TheVariants.{Never}
 use Rattle.abc_fields.proofs.TuneLemmas.{key_before, none_before, before_length}
-use Rattle.told_books.specs.ToldTunes.{fault_of}
+use Rattle.told_books.specs.ToldTunes.{fault_of_tune}
 use Rattle.told_books.specs.Inside.Rooms.{room_after}
-use Rattle.told_books.specs.Inside.Sums.{sum_carried, AreSums}
+use Rattle.told_books.specs.Inside.Sums.{sum_carried_by, AreHeaderSums}
 use Rattle.told_books.specs.declared.sums.RuleSum.{RuleSum}
 
 -- a tune without a key
-pub no_key : (longest : ℕ) (header run : List (List ℕ)) → has_key run ≡ false → Some NoKey ≡ fault_of longest (with_header header run)
+pub no_key : (longest : ℕ) (header run : List (List ℕ)) → has_key run ≡ false → Some NoKey ≡ fault_of_tune longest (with_header header run)
 no_key longest header run none =
     let same : with_header header run ≡ run = none_before (carried (has_letter (header_of run)) Never header) run none in
-    sym (ap (fault_of longest) same ∙ rw none refl)
+    sym (ap (fault_of_tune longest) same ∙ rw none refl)
 
-keyed_long : (longest : ℕ) (run : List (List ℕ)) → has_key run ≡ true → longest < length (joined run) → Some TooLong ≡ fault_of longest run
+keyed_long : (longest : ℕ) (run : List (List ℕ)) → has_key run ≡ true → longest < length (joined run) → Some TooLong ≡ fault_of_tune longest run
 keyed_long longest run keyed over = rw (keyed, lt-ltb longest (length (joined run)) over) refl
 
-keyed_good : (longest : ℕ) (run : List (List ℕ)) → has_key run ≡ true → length (joined run) ≤ longest → None ≡ fault_of longest run
+keyed_good : (longest : ℕ) (run : List (List ℕ)) → has_key run ≡ true → length (joined run) ≤ longest → None ≡ fault_of_tune longest run
 keyed_good longest run keyed fits = rw (keyed, le-ltb longest (length (joined run)) fits) refl
 
 -- what the text of a tune with a key has, with what it carries
@@ -48,15 +48,15 @@ room_some longest n room some = elim (cases_Bool (nat_le n longest)) [
 
 -- the lines of a tune are too long by themselves
 pub none_left : (longest : ℕ) (header run : List (List ℕ)) → has_key run ≡ true → room_after (Some longest) (length (joined run)) ≡ None
-    → Some TooLong ≡ fault_of longest (with_header header run)
+    → Some TooLong ≡ fault_of_tune longest (with_header header run)
 none_left longest header run keyed none =
     keyed_long longest (with_header header run) (whole_key header run keyed)
     (omega (arith, whole_length header run keyed, room_none longest (length (joined run)) none))
 
 -- they are too long with what the tune carries
 pub some_over : (longest room : ℕ) (sums : List RuleSum) (header run : List (List ℕ)) → has_key run ≡ true
-    → room_after (Some longest) (length (joined run)) ≡ Some room → AreSums sums header
-    → nat_le (sum_carried (has_letter (header_of run)) sums) room ≡ false → Some TooLong ≡ fault_of longest (with_header header run)
+    → room_after (Some longest) (length (joined run)) ≡ Some room → AreHeaderSums sums header
+    → nat_le (sum_carried_by (has_letter (header_of run)) sums) room ≡ false → Some TooLong ≡ fault_of_tune longest (with_header header run)
 some_over longest room sums header run keyed some are over =
     keyed_long longest (with_header header run) (whole_key header run keyed)
     (omega (
@@ -64,13 +64,13 @@ some_over longest room sums header run keyed some are over =
       whole_length header run keyed,
       room_some longest (length (joined run)) room some,
       are (has_letter (header_of run)),
-      leb-false (sum_carried (has_letter (header_of run)) sums) room over,
+      leb-false (sum_carried_by (has_letter (header_of run)) sums) room over,
     ))
 
 -- they are not
 pub all_fit : (longest room : ℕ) (sums : List RuleSum) (header run : List (List ℕ)) → has_key run ≡ true
-    → room_after (Some longest) (length (joined run)) ≡ Some room → AreSums sums header
-    → nat_le (sum_carried (has_letter (header_of run)) sums) room ≡ true → None ≡ fault_of longest (with_header header run)
+    → room_after (Some longest) (length (joined run)) ≡ Some room → AreHeaderSums sums header
+    → nat_le (sum_carried_by (has_letter (header_of run)) sums) room ≡ true → None ≡ fault_of_tune longest (with_header header run)
 all_fit longest room sums header run keyed some are fits =
     keyed_good longest (with_header header run) (whole_key header run keyed)
     (omega (
@@ -78,5 +78,5 @@ all_fit longest room sums header run keyed some are fits =
       whole_length header run keyed,
       room_some longest (length (joined run)) room some,
       are (has_letter (header_of run)),
-      leb-true (sum_carried (has_letter (header_of run)) sums) room fits,
+      leb-true (sum_carried_by (has_letter (header_of run)) sums) room fits,
     ))

@@ -7,7 +7,7 @@ use Rattle.abc_fields.specs.Tunes.{is_empty_line, is_tune_start, tune_run, tune_
 use Rattle.std.specs.List.{list_all}
 use Rattle.abc_fields.specs.FileHeaders.{first_block, is_header_line}
 use Rattle.abc_fields.specs.declared.carry_rules.CarryRule.{CarryRule}
-use Rattle.told_books.specs.Fates.{fates_of, fates_from, fate_at, stand_after, tunes_at, after_empty, after_other, other_fate, header_fate}
+use Rattle.told_books.specs.Fates.{fates_of, fates_from, fate_at, stand_after, tunes_begun, after_empty, after_other, other_fate, header_fate}
 use Rattle.told_books.specs.Fates.{is_kept_of, lines_told}
 use Rattle.told_books.specs.Fates.{with_version, first_stand, some_carries, is_version, engraves}
 use Rattle.told_books.specs.FateLines.{IsWholeTune, TellsTunes}
@@ -68,14 +68,14 @@ kept_empty carry n stand line lines is =
     ∙ ap (λ s. kept carry n s lines) (stand_empty stand line is)
 
 kept_next : (carry : CarryRule → Bool) (n : ℕ) (stand : Stand) (line : List ℕ) (lines : List (List ℕ)) → is_empty_line line ≡ false → is_tune_start line ≡ true
-    → eqb (tunes_at stand + 1) n ≡ false → kept carry n stand (line ∷ lines) ≡ kept carry n (Tune (tunes_at stand + 1)) lines
+    → eqb (tunes_begun stand + 1) n ≡ false → kept carry n stand (line ∷ lines) ≡ kept carry n (Tune (tunes_begun stand + 1)) lines
 kept_next carry n stand line lines some is differs =
     told_no (is_kept_of n) (fate_at carry stand line) (fates_from carry (stand_after stand line) lines) line lines
     (ap (is_kept_of n) (fate_start carry stand line some is) ∙ differs)
     ∙ ap (λ s. kept carry n s lines) (stand_start stand line some is)
 
 kept_this : (carry : CarryRule → Bool) (n : ℕ) (stand : Stand) (line : List ℕ) (lines : List (List ℕ)) → is_empty_line line ≡ false → is_tune_start line ≡ true
-    → eqb (tunes_at stand + 1) n ≡ true → kept carry n stand (line ∷ lines) ≡ line ∷ kept carry n (Tune (tunes_at stand + 1)) lines
+    → eqb (tunes_begun stand + 1) n ≡ true → kept carry n stand (line ∷ lines) ≡ line ∷ kept carry n (Tune (tunes_begun stand + 1)) lines
 kept_this carry n stand line lines some is same =
     told_yes (is_kept_of n) (fate_at carry stand line) (fates_from carry (stand_after stand line) lines) line lines
     (ap (is_kept_of n) (fate_start carry stand line some is) ∙ same)
@@ -97,15 +97,15 @@ kept_within carry n line lines some isnt =
 
 -- WHOLE TUNES
 -- an earlier tune has ended
-kept_passed : (carry : CarryRule → Bool) (n : ℕ) (stand : Stand) (lines : List (List ℕ)) → n ≤ tunes_at stand → in_tune stand n ≡ false
+kept_passed : (carry : CarryRule → Bool) (n : ℕ) (stand : Stand) (lines : List (List ℕ)) → n ≤ tunes_begun stand → in_tune stand n ≡ false
     → kept carry n stand lines ≡ []
 kept_passed carry n stand [] before out = refl
 kept_passed carry n stand (line ∷ lines) before out = elim (kind_of line) [
   | empty is isnt ↦ kept_empty carry n stand line lines is
       ∙ kept_passed carry n (after_empty stand) lines (omega (arith, at_empty stand)) (left_empty stand n)
   | starts some is ↦
-      let differs : eqb (tunes_at stand + 1) n ≡ false = ne_eqb (tunes_at stand + 1) n (λ e. omega arith) in
-      kept_next carry n stand line lines some is differs ∙ kept_passed carry n (Tune (tunes_at stand + 1)) lines (omega arith) differs
+      let differs : eqb (tunes_begun stand + 1) n ≡ false = ne_eqb (tunes_begun stand + 1) n (λ e. omega arith) in
+      kept_next carry n stand line lines some is differs ∙ kept_passed carry n (Tune (tunes_begun stand + 1)) lines (omega arith) differs
   | other some isnt ↦ kept_out carry n stand line lines some isnt out
       ∙ kept_passed carry n (after_other stand line) lines (omega (arith, at_other stand line)) (left_other stand line n ∙ out)
 ]
@@ -146,15 +146,15 @@ whole_moved told moved run e is = record { start = is.start; starts = is.starts;
 -- the tune that a line starts
 first_tune : (carry : CarryRule → Bool) (n : ℕ) (stand : Stand) (line : List ℕ) (lines run : List (List ℕ)) → is_empty_line line ≡ false
     → is_tune_start line ≡ true
-    → n ≡ tunes_at stand + 1 → tune_run lines ≡ run → IsWholeTune (kept carry n stand (line ∷ lines)) run
+    → n ≡ tunes_begun stand + 1 → tune_run lines ≡ run → IsWholeTune (kept carry n stand (line ∷ lines)) run
 first_tune carry n stand line lines run some is number same =
-    let this = kept_this carry n stand line lines some is (eq-eqb (tunes_at stand + 1) n (sym number)) in
+    let this = kept_this carry n stand line lines some is (eq-eqb (tunes_begun stand + 1) n (sym number)) in
     let whole : kept carry n stand (line ∷ lines) ≡ line ∷ run =
     this ∙ ap (λ m. line ∷ kept carry n (Tune m) lines) (sym number) ∙ ap (λ ls. line ∷ ls) (kept_open carry n lines ∙ same) in
     record { start = line; starts = is; whole = sym whole }
 
 -- the tune after so many others
-tune_told : (carry : CarryRule → Bool) (n k : ℕ) (stand : Stand) (lines run : List (List ℕ)) → n ≡ tunes_at stand + k + 1
+tune_told : (carry : CarryRule → Bool) (n k : ℕ) (stand : Stand) (lines run : List (List ℕ)) → n ≡ tunes_begun stand + k + 1
     → in_tune stand n ≡ false → slice_get (tune_runs lines) k ≡ Some run → IsWholeTune (kept carry n stand lines) run
 tune_told carry n k stand [] run number out found = absurd (let h : None ≡ Some run = found in cc)
 tune_told carry n zero stand (line ∷ lines) run number out found = elim (kind_of line) [
@@ -172,9 +172,9 @@ tune_told carry n (suc k) stand (line ∷ lines) run number out found = elim (ki
       (tune_told carry n (suc k) (after_empty stand) lines run (omega (arith, at_empty stand)) (left_empty stand n)
       (ap (λ rs. slice_get rs (suc k)) (sym (runs_other line lines isnt)) ∙ found))
   | starts some is ↦
-      let differs : eqb (tunes_at stand + 1) n ≡ false = ne_eqb (tunes_at stand + 1) n (λ e. omega arith) in
+      let differs : eqb (tunes_begun stand + 1) n ≡ false = ne_eqb (tunes_begun stand + 1) n (λ e. omega arith) in
       whole_moved _ _ run (kept_next carry n stand line lines some is differs)
-      (tune_told carry n k (Tune (tunes_at stand + 1)) lines run (omega arith) differs
+      (tune_told carry n k (Tune (tunes_begun stand + 1)) lines run (omega arith) differs
       (ap (λ rs. slice_get rs (suc k)) (sym (runs_start line lines is)) ∙ found))
   | other some isnt ↦ whole_moved _ _ run (kept_out carry n stand line lines some isnt out)
       (tune_told carry n (suc k) (after_other stand line) lines run (omega (arith, at_other stand line)) (left_other stand line n ∙ out)
@@ -182,16 +182,16 @@ tune_told carry n (suc k) stand (line ∷ lines) run number out found = elim (ki
 ]
 
 -- there is no such tune
-kept_none : (carry : CarryRule → Bool) (n : ℕ) (stand : Stand) (lines : List (List ℕ)) → tunes_at stand + length (tune_runs lines) < n
+kept_none : (carry : CarryRule → Bool) (n : ℕ) (stand : Stand) (lines : List (List ℕ)) → tunes_begun stand + length (tune_runs lines) < n
     → in_tune stand n ≡ false → kept carry n stand lines ≡ []
 kept_none carry n stand [] past out = refl
 kept_none carry n stand (line ∷ lines) past out = elim (kind_of line) [
   | empty is isnt ↦ kept_empty carry n stand line lines is
       ∙ kept_none carry n (after_empty stand) lines (omega (arith, at_empty stand, ap length (runs_other line lines isnt))) (left_empty stand n)
   | starts some is ↦
-      let differs : eqb (tunes_at stand + 1) n ≡ false = ne_eqb (tunes_at stand + 1) n (λ e. omega (arith, ap length (runs_start line lines is))) in
+      let differs : eqb (tunes_begun stand + 1) n ≡ false = ne_eqb (tunes_begun stand + 1) n (λ e. omega (arith, ap length (runs_start line lines is))) in
       kept_next carry n stand line lines some is differs
-      ∙ kept_none carry n (Tune (tunes_at stand + 1)) lines (omega (arith, ap length (runs_start line lines is))) differs
+      ∙ kept_none carry n (Tune (tunes_begun stand + 1)) lines (omega (arith, ap length (runs_start line lines is))) differs
   | other some isnt ↦ kept_out carry n stand line lines some isnt out
       ∙ kept_none carry n (after_other stand line) lines (omega (arith, at_other stand line, ap length (runs_other line lines isnt)))
       (left_other stand line n ∙ out)
@@ -221,8 +221,8 @@ told_of test lines version dropped =
     (λ stand. fate_at (some_carries runs) stand line ≡ Dropped (engraves line))
     (λ all. (version_fate runs line is).0) (λ not_all. (version_fate runs line is).1))
 
-first_tunes : (lines : List (List ℕ)) → tunes_at (first_stand lines) ≡ 0
-first_tunes lines = cond_both (list_all is_header_line (first_block lines)) Front (Outside 0) (λ stand. tunes_at stand ≡ 0) (λ all. refl) (λ not_all. refl)
+first_tunes : (lines : List (List ℕ)) → tunes_begun (first_stand lines) ≡ 0
+first_tunes lines = cond_both (list_all is_header_line (first_block lines)) Front (Outside 0) (λ stand. tunes_begun stand ≡ 0) (λ all. refl) (λ not_all. refl)
 
 first_out : (lines : List (List ℕ)) (n : ℕ) → in_tune (first_stand lines) n ≡ false
 first_out lines n =

@@ -4,7 +4,7 @@ use Rattle.std.proofs.Common.{inl, inr}
 use Rattle.std.proofs.lemmas.Bool.{cases_Bool, and_parts, eqb-true, true≢false}
 use Rattle.abc_fields.specs.Tunes.{is_empty_line, is_tune_start}
 use Rattle.abc_fields.specs.declared.carry_rules.CarryRule.{CarryRule}
-use Rattle.told_books.specs.Fates.{is_version, engraves, fate_at, stand_after, tunes_at, after_empty, after_other, other_fate}
+use Rattle.told_books.specs.Fates.{is_version, engraves, fate_at, stand_after, tunes_begun, after_empty, after_other, other_fate}
 use Rattle.told_books.specs.Fates.{some_carries}
 use Rattle.told_books.specs.declared.fates.Fate.TheVariants.{Kept, Blank, Dropped}
 use Rattle.told_books.specs.declared.fates.Stand.{Stand}
@@ -36,7 +36,7 @@ pub fate_empty : (carry : CarryRule → Bool) (stand : Stand) (line : List ℕ) 
 fate_empty carry stand line is = rw is refl
 
 pub fate_start : (carry : CarryRule → Bool) (stand : Stand) (line : List ℕ) → is_empty_line line ≡ false → is_tune_start line ≡ true
-    → fate_at carry stand line ≡ Kept (tunes_at stand + 1)
+    → fate_at carry stand line ≡ Kept (tunes_begun stand + 1)
 fate_start carry stand line some is = rw (some, is) refl
 
 pub fate_other : (carry : CarryRule → Bool) (stand : Stand) (line : List ℕ) → is_empty_line line ≡ false → is_tune_start line ≡ false
@@ -47,7 +47,8 @@ fate_other carry stand line some isnt = rw (some, isnt) refl
 pub stand_empty : (stand : Stand) (line : List ℕ) → is_empty_line line ≡ true → stand_after stand line ≡ after_empty stand
 stand_empty stand line is = rw is refl
 
-pub stand_start : (stand : Stand) (line : List ℕ) → is_empty_line line ≡ false → is_tune_start line ≡ true → stand_after stand line ≡ Tune (tunes_at stand + 1)
+pub stand_start : (stand : Stand) (line : List ℕ) → is_empty_line line ≡ false → is_tune_start line ≡ true → stand_after stand line
+    ≡ Tune (tunes_begun stand + 1)
 stand_start stand line some is = rw (some, is) refl
 
 pub stand_other : (stand : Stand) (line : List ℕ) → is_empty_line line ≡ false → is_tune_start line ≡ false → stand_after stand line ≡ after_other stand line

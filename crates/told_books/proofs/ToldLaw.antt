@@ -7,7 +7,7 @@ use Rattle.abc_fields.specs.FileHeaders.{file_header}
 use Rattle.abc_fields.specs.Inside.LinesLeft.{contents_of}
 use Rattle.abc_fields.proofs.LineOffsets.{spans_have_lines}
 use Rattle.told_books.specs.Fates.{book_lines, fates_of, is_dropped}
-use Rattle.told_books.specs.ToldTunes.{fault_of, tunes_from}
+use Rattle.told_books.specs.ToldTunes.{fault_of_tune, told_tunes_from}
 use Rattle.told_books.specs.FateLines.{dropped_row, dropped_from, TellsTunes, TellsCarriedLines}
 use Rattle.told_books.specs.declared.fates.Fate.{Fate}
 use Rattle.told_books.specs.declared.dropped.DroppedLine.{DroppedLine}
@@ -48,6 +48,6 @@ told_lost book spans fates dropped told rows =
     sym (length-map dropped dropped_row) ∙ ap length rows ∙ dropped_count 1 fates (contents_of spans) same
 
 pub told_faults : (longest : ℕ) (book : List ℕ) (spans : List Span) (tunes : List ToldTune) → spans ≡ spans_of (without_mark book)
-    → tunes ≡ tunes_from longest (file_header (contents_of spans)) 1 (contents_of spans) → faults tunes ≡ map (fault_of longest) (book_runs book)
+    → tunes ≡ told_tunes_from longest (file_header (contents_of spans)) 1 (contents_of spans) → faults tunes ≡ map (fault_of_tune longest) (book_runs book)
 told_faults longest book spans tunes same told =
-    ap faults (told ∙ ap (λ lines. tunes_from longest (file_header lines) 1 lines) (lines_same book spans same)) ∙ book_faults longest book
+    ap faults (told ∙ ap (λ lines. told_tunes_from longest (file_header lines) 1 lines) (lines_same book spans same)) ∙ book_faults longest book

@@ -5,7 +5,7 @@ use Rattle.abc_fields.specs.Bytes.{byte_order_mark}
 use Rattle.abc_fields.specs.FileHeaders.{file_header}
 use Rattle.abc_fields.specs.declared.book.TuneFault.TheVariants.{NoKey, TooLong}
 use Rattle.told_books.specs.Fates.{book_lines, fates_of, is_dropped}
-use Rattle.told_books.specs.ToldTunes.{tunes_from}
+use Rattle.told_books.specs.ToldTunes.{told_tunes_from}
 use Rattle.told_books.specs.declared.fates.Fate.{Fate}
 use Rattle.told_books.specs.declared.fates.Fate.TheVariants.{Kept, Carried, Blank, Version, Dropped}
 use Rattle.told_books.specs.declared.tunes.ToldTune.{ToldTune}
@@ -19,7 +19,7 @@ abbrev lost_in : List ℕ → ℕ
 lost_in book = count_by is_dropped (fates_in book)
 
 abbrev tunes_in : ℕ → List ℕ → List ToldTune
-tunes_in longest book = let lines = book_lines book in tunes_from longest (file_header lines) 1 lines
+tunes_in longest book = let lines = book_lines book in told_tunes_from longest (file_header lines) 1 lines
 
 -- a mark, each line ended as on Windows, and lines that each tune carries, some, or none
 book_of_another_system : fates_in (byte_order_mark

@@ -36,11 +36,11 @@ abbrev pub first_stand : List (List ℕ) → Stand
 first_stand lines = if list_all is_header_line (first_block lines) then Front else Outside 0
 
 -- how many tunes have begun before a line that stands there
-abbrev pub tunes_at : Stand → ℕ
-tunes_at Front = 0
-tunes_at (Header above) = 0
-tunes_at (Tune number) = number
-tunes_at (Outside tunes) = tunes
+abbrev pub tunes_begun : Stand → ℕ
+tunes_begun Front = 0
+tunes_begun (Header above) = 0
+tunes_begun (Tune number) = number
+tunes_begun (Outside tunes) = tunes
 
 -- an empty line ends a file header and a tune
 abbrev pub after_empty : Stand → Stand
@@ -60,7 +60,7 @@ after_other (Outside tunes) line = Outside tunes
 abbrev pub stand_after : Stand → List ℕ → Stand
 stand_after stand line =
     if is_empty_line line then after_empty stand
-    else if is_tune_start line then Tune (tunes_at stand + 1)
+    else if is_tune_start line then Tune (tunes_begun stand + 1)
     else after_other stand line
 
 -- FATES
@@ -79,7 +79,7 @@ other_fate carry (Outside tunes) line = Dropped (engraves line)
 abbrev pub fate_at : (CarryRule → Bool) → Stand → List ℕ → Fate
 fate_at carry stand line =
     if is_empty_line line then Blank
-    else if is_tune_start line then Kept (tunes_at stand + 1)
+    else if is_tune_start line then Kept (tunes_begun stand + 1)
     else other_fate carry stand line
 
 -- lines of which the first stands there

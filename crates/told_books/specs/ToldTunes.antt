@@ -11,21 +11,25 @@ use Rattle.told_books.specs.declared.tunes.ToldTune.{ToldTune}
 
 -- why a tune of these lines, with those that it carries, is refused where a text may have so many
 -- bytes: the key is looked for before the length
-abbrev pub fault_of : ℕ → List (List ℕ) → Option TuneFault
-fault_of longest run =
+abbrev pub fault_of_tune : ℕ → List (List ℕ) → Option TuneFault
+fault_of_tune longest run =
     if not (has_key run) then Some NoKey
     else if nat_lt longest (length (joined run)) then Some TooLong
     else None
 
 -- the tunes of these lines, each judged for itself with what it carries of this file header; the
 -- first line has this number
-abbrev pub tunes_from : ℕ → List (List ℕ) → ℕ → List (List ℕ) → List ToldTune
-tunes_from longest header number [] = []
-tunes_from longest header number (line ∷ lines) =
+abbrev pub told_tunes_from : ℕ → List (List ℕ) → ℕ → List (List ℕ) → List ToldTune
+told_tunes_from longest header number [] = []
+told_tunes_from longest header number (line ∷ lines) =
     if is_tune_start line
-    then record { line = number; fault = fault_of longest (with_header header (tune_run lines)) }
-    ∷ tunes_from longest header (number + 1) lines
-    else tunes_from longest header (number + 1) lines
+    then record {
+      line = number;
+      fault = fault_of_tune longest
+          (with_header header (tune_run lines));
+    }
+    ∷ told_tunes_from longest header (number + 1) lines
+    else told_tunes_from longest header (number + 1) lines
 
 -- THE BOOK AS A WHOLE
 -- the fault of a tune of this place, where it has one, else the answer to the later ones

@@ -6,7 +6,7 @@ ghost use Rattle.abc_fields.specs.Tunes.{tune_runs};
 ghost use Rattle.abc_fields.specs.FileHeaders.{first_block, is_header_line};
 ghost use Rattle.abc_fields.specs.Inside.LinesLeft.{contents_of};
 ghost use Rattle.told_books.specs.Fates.{fates_of, fates_from, fate_at, other_fate, header_fate};
-ghost use Rattle.told_books.specs.Fates.{stand_after, after_empty, after_other, tunes_at};
+ghost use Rattle.told_books.specs.Fates.{stand_after, after_empty, after_other, tunes_begun};
 ghost use Rattle.told_books.specs.Fates.{first_stand, with_version, some_carries};
 ghost use Rattle.told_books.specs.Inside.LetterTables.{TellsCarried};
 
@@ -46,7 +46,7 @@ pub(crate) enum Stand {
 
 // How many tunes have begun.
 fn tunes_at(stand: Stand) -> usize
-    ensures { result ≡ tunes_at stand }
+    ensures { result ≡ tunes_begun stand }
 {
     match stand {
         Stand::Front | Stand::Header(_) => 0,
@@ -79,7 +79,7 @@ fn after_other(stand: Stand, line: &[u8]) -> Stand
 
 // Where the line after this one stands.
 fn stand_after(stand: Stand, line: &[u8]) -> Stand
-    requires { tunes_at stand + 1 < 2 ^ 64 }
+    requires { tunes_begun stand + 1 < 2 ^ 64 }
     ensures { result ≡ stand_after stand line.now }
 {
     if is_all_blank(line) {
@@ -120,7 +120,7 @@ fn other_fate(some: &SomeCarry, stand: Stand, line: &[u8]) -> Fate
 }
 
 fn fate_at(some: &SomeCarry, stand: Stand, line: &[u8]) -> Fate
-    requires { tunes_at stand + 1 < 2 ^ 64 }
+    requires { tunes_begun stand + 1 < 2 ^ 64 }
     ensures { (runs : List (List (List ℕ))) → TellsCarried some.now runs
         → result ≡ fate_at (some_carries runs) stand line.now }
 {
@@ -141,7 +141,7 @@ fn fates_from(
     first: Stand,
     lines: Lines,
 ) -> Result<Vec<Fate>, AllocError>
-    requires { tunes_at first + length (contents_of lines) + 1 < 2 ^ 64 }
+    requires { tunes_begun first + length (contents_of lines) + 1 < 2 ^ 64 }
     ensures { IfOk result (λ fates. (runs : List (List (List ℕ))) → TellsCarried some.now runs
         → fates.items ≡ fates_from (some_carries runs) first (contents_of lines.entry)) }
 {

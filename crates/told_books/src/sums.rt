@@ -6,8 +6,8 @@ ghost use Rattle.abc_fields.specs.Tunes.{joined};
 ghost use Rattle.abc_fields.specs.FileHeaders.{carries, carried, has_letter, first_block};
 ghost use Rattle.abc_fields.specs.FileHeaders.{is_header_line, file_header};
 ghost use Rattle.abc_fields.specs.Inside.LinesLeft.{contents_of};
-ghost use Rattle.told_books.specs.Inside.LetterTables.{IsTableOf};
-ghost use Rattle.told_books.specs.Inside.Sums.{sum_carried, sum_all, AreSums};
+ghost use Rattle.told_books.specs.Inside.LetterTables.{IsLetterTableOf};
+ghost use Rattle.told_books.specs.Inside.Sums.{sum_carried_by, sum_of_rules, AreHeaderSums};
 
 use crate::line_rules::{rule_below, rule_of};
 use crate::tune_letters::Letters;
@@ -23,10 +23,10 @@ pub(crate) struct RuleSum {
 
 // Adds this many bytes to the sum of a rule.
 fn add_sum(sums: &mut Vec<RuleSum>, rule: CarryRule, length: usize) -> Result<(), AllocError>
-    requires { sum_all sums.old.items + length < 2 ^ 64 }
-    ensures each { OnOk result ((owns : ℕ → Bool) → sum_carried owns sums.new.items
-        ≡ sum_carried owns sums.old.items + (if carries owns rule then length else 0)) }
-    ensures all { OnOk result (sum_all sums.new.items ≡ sum_all sums.old.items + length) }
+    requires { sum_of_rules sums.old.items + length < 2 ^ 64 }
+    ensures each { OnOk result ((owns : ℕ → Bool) → sum_carried_by owns sums.new.items
+        ≡ sum_carried_by owns sums.old.items + (if carries owns rule then length else 0)) }
+    ensures all { OnOk result (sum_of_rules sums.new.items ≡ sum_of_rules sums.old.items + length) }
 {
     match place_of(sums, rule) {
         Some(place) => {
@@ -49,7 +49,8 @@ fn place_of(sums: &[RuleSum], rule: CarryRule) -> Option<usize>
 // The sums of the first block of lines.
 fn sums_of_block(alloc: Global, lines: Lines) -> Result<Vec<RuleSum>, AllocError>
     requires { length (joined (contents_of lines)) < 2 ^ 64 }
-    ensures { IfOk result (λ sums. AreSums sums.items (first_block (contents_of lines.entry))) }
+    ensures { IfOk result
+        (λ sums. AreHeaderSums sums.items (first_block (contents_of lines.entry))) }
 {
     let mut sums = Vec::new(alloc);
     let mut above = CarryRule::Never;
@@ -72,7 +73,8 @@ fn sums_of_block(alloc: Global, lines: Lines) -> Result<Vec<RuleSum>, AllocError
 pub(crate) fn sums_of(alloc: Global, lines: Lines, header: bool) -> Result<Vec<RuleSum>, AllocError>
     requires room { length (joined (contents_of lines)) < 2 ^ 64 }
     requires header { header ≡ list_all is_header_line (first_block (contents_of lines)) }
-    ensures { IfOk result (λ sums. AreSums sums.items (file_header (contents_of lines.entry))) }
+    ensures { IfOk result
+        (λ sums. AreHeaderSums sums.items (file_header (contents_of lines.entry))) }
 {
     if header {
         sums_of_block(alloc, lines)
@@ -83,8 +85,8 @@ pub(crate) fn sums_of(alloc: Global, lines: Lines, header: bool) -> Result<Vec<R
 
 // Whether the lines fit in this many bytes that a tune with these letters carries.
 pub(crate) fn fit(sums: &[RuleSum], letters: &Letters, room: usize) -> bool
-    ensures { (own : List (List ℕ)) → IsTableOf letters.now.table own
-        → result ≡ nat_le (sum_carried (has_letter own) sums.now) room }
+    ensures { (own : List (List ℕ)) → IsLetterTableOf letters.now.table own
+        → result ≡ nat_le (sum_carried_by (has_letter own) sums.now) room }
 {
     let mut left = room;
     for sum in sums {

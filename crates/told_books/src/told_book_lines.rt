@@ -5,7 +5,7 @@ ghost use Rattle.abc_fields.specs.Limits.{longest_book};
 ghost use Rattle.abc_fields.specs.Books.{book_runs, tune_texts, book_answer};
 ghost use Rattle.abc_fields.specs.FileHeaders.{file_header};
 ghost use Rattle.told_books.specs.Fates.{book_lines, fates_of, is_dropped};
-ghost use Rattle.told_books.specs.ToldTunes.{tunes_from, fault_of, book_fault};
+ghost use Rattle.told_books.specs.ToldTunes.{told_tunes_from, fault_of_tune, book_fault};
 ghost use Rattle.told_books.specs.FateLines.{dropped_from, dropped_row, TellsTunes};
 ghost use Rattle.told_books.specs.FateLines.{TellsCarriedLines};
 
@@ -65,7 +65,7 @@ impl<'a> ToldBook<'a> {
 pub fn told_book(alloc: Global, book: &[u8], longest: usize) -> Result<ToldBook<'_>, AllocError>
     ensures fates { IfOk result (λ told. told.fates.items ≡ fates_of (book_lines book.now)) }
     ensures tunes { IfOk result (λ told. let lines = book_lines book.now in
-        told.tunes.items ≡ tunes_from longest (file_header lines) 1 lines) }
+        told.tunes.items ≡ told_tunes_from longest (file_header lines) 1 lines) }
     ensures dropped { IfOk result (λ told. let lines = book_lines book.now in
         map dropped_row told.dropped.items ≡ dropped_from 1 (fates_of lines) lines) }
     ensures too_long { IfOk result (λ told. told.too_long ≡ nat_lt longest_book (length book.now)) }
@@ -76,7 +76,8 @@ pub fn told_book(alloc: Global, book: &[u8], longest: usize) -> Result<ToldBook<
     ensures lost { IfOk result (λ told.
         vec_len told.dropped ≡ count_by is_dropped told.fates.items) }
     ensures faults { IfOk result (λ told.
-        map (λ tune. tune.fault) told.tunes.items ≡ map (fault_of longest) (book_runs book.now)) }
+        map (λ tune. tune.fault) told.tunes.items
+        ≡ map (fault_of_tune longest) (book_runs book.now)) }
     ensures answer { IfOk result (λ told. MatchOption (book_fault told.too_long told.tunes.items)
         (book_answer longest book.now ≡ Ok (tune_texts book.now))
         (λ fault. book_answer longest book.now ≡ Err fault)) }

@@ -6,7 +6,8 @@ ghost use Rattle.abc_fields.specs.Tunes.{tune_run, tune_runs};
 ghost use Rattle.abc_fields.specs.FileHeaders.{carries, has_letter};
 ghost use Rattle.abc_fields.specs.Inside.LinesLeft.{contents_of};
 ghost use Rattle.told_books.specs.Fates.{some_carries};
-ghost use Rattle.told_books.specs.Inside.LetterTables.{in_table, IsTableOf, TellsCarried};
+ghost use Rattle.told_books.specs.Inside.LetterTables.{letter_in_table, IsLetterTableOf};
+ghost use Rattle.told_books.specs.Inside.LetterTables.{TellsCarried};
 
 use crate::line_rules::{ends_tune, starts_tune};
 use abc_fields::{CarryRule, Lines, is_key_line};
@@ -20,7 +21,7 @@ pub(crate) struct Letters {
 impl Letters {
     // No letter.
     fn none() -> Letters
-        ensures { IsTableOf result.table [] }
+        ensures { IsLetterTableOf result.table [] }
     {
         Letters {
             table: [false; 256],
@@ -29,7 +30,7 @@ impl Letters {
 
     // Those of the header of a tune, of which these are the lines, with what stands behind it.
     pub(crate) fn of_tune(lines: Lines) -> Letters
-        ensures { IsTableOf result.table (header_of (tune_run (contents_of lines.entry))) }
+        ensures { IsLetterTableOf result.table (header_of (tune_run (contents_of lines.entry))) }
     {
         let mut letters = Letters::none();
         for line in lines {
@@ -46,8 +47,8 @@ impl Letters {
 
     // Takes the next line of the header.
     fn take_line(&mut self, line: &[u8])
-        ensures { (letter : ℕ) → letter < 256 → in_table self.new.table letter
-            ≡ (begins_with line.now (letter ∷ codes ":") || in_table self.old.table letter) }
+        ensures { (letter : ℕ) → letter < 256 → letter_in_table self.new.table letter
+            ≡ (begins_with line.now (letter ∷ codes ":") || letter_in_table self.old.table letter) }
     {
         if let [letter, b':', ..] = line {
             self.table[usize::from(*letter)] = true;
@@ -56,7 +57,7 @@ impl Letters {
 
     // Whether a tune with these letters carries a line of this rule.
     pub(crate) fn carry(&self, rule: CarryRule) -> bool
-        ensures { (own : List (List ℕ)) → IsTableOf self.now.table own
+        ensures { (own : List (List ℕ)) → IsLetterTableOf self.now.table own
             → result ≡ carries (has_letter own) rule }
     {
         match rule {
@@ -116,8 +117,8 @@ impl SomeCarry {
 
 // Adds the letters that a tune does not have.
 fn add_lacking(unless: &mut [bool; 256], letters: &Letters)
-    ensures { (letter : ℕ) → letter < 256 → in_table unless.new letter
-        ≡ (not (in_table letters.now.table letter) || in_table unless.old letter) }
+    ensures { (letter : ℕ) → letter < 256 → letter_in_table unless.new letter
+        ≡ (not (letter_in_table letters.now.table letter) || letter_in_table unless.old letter) }
 {
     for (i, has) in letters.table.iter().enumerate() {
         if !*has {

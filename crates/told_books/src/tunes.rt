@@ -3,8 +3,8 @@ ghost use Rattle.std.specs.Prelude.{◌≡◌, ◌<◌, ◌+◌, ◌++◌, ◌^�
 ghost use Rattle.abc_fields.specs.Tunes.{tune_run, has_key, joined};
 ghost use Rattle.abc_fields.specs.FileHeaders.{with_header};
 ghost use Rattle.abc_fields.specs.Inside.LinesLeft.{contents_of};
-ghost use Rattle.told_books.specs.ToldTunes.{fault_of, tunes_from, first_bad};
-ghost use Rattle.told_books.specs.Inside.Sums.{AreSums};
+ghost use Rattle.told_books.specs.ToldTunes.{fault_of_tune, told_tunes_from, first_bad};
+ghost use Rattle.told_books.specs.Inside.Sums.{AreHeaderSums};
 ghost use Rattle.told_books.specs.Inside.Rooms.{room_after};
 
 use crate::line_rules::{ends_tune, starts_tune};
@@ -58,8 +58,8 @@ fn measure(lines: Lines, longest: usize) -> Measured
 
 // Why a tune of these lines, with what stands behind it, is refused.
 fn fault_of(lines: Lines, sums: &[RuleSum], longest: usize) -> Option<TuneFault>
-    ensures { (header : List (List ℕ)) → AreSums sums.now header
-        → result ≡ fault_of longest (with_header header (tune_run (contents_of lines.entry))) }
+    ensures { (header : List (List ℕ)) → AreHeaderSums sums.now header
+        → result ≡ fault_of_tune longest (with_header header (tune_run (contents_of lines.entry))) }
 {
     let measured = measure(lines.again(), longest);
     if !measured.has_key {
@@ -83,8 +83,8 @@ pub(crate) fn tunes_of(
     longest: usize,
 ) -> Result<Vec<ToldTune>, AllocError>
     requires { length (contents_of lines) + 1 < 2 ^ 64 }
-    ensures { IfOk result (λ tunes. (header : List (List ℕ)) → AreSums sums.now header
-        → tunes.items ≡ tunes_from longest header 1 (contents_of lines.entry)) }
+    ensures { IfOk result (λ tunes. (header : List (List ℕ)) → AreHeaderSums sums.now header
+        → tunes.items ≡ told_tunes_from longest header 1 (contents_of lines.entry)) }
 {
     let mut tunes = Vec::new(alloc);
     let mut number = 0;

@@ -25,7 +25,7 @@ use Rattle.tune_store.proofs.LimitLemmas.{step_keeps_limits}
 use Rattle.tune_archive.specs.Media.{moment_of, LeftAt, LeftFrom}
 use Rattle.tune_archive.specs.Shelf.{Shelf, state_of, IsSound, StandsForOneOf}
 use Rattle.tune_archive.specs.Inside.Changing.{MakesChange}
-use Rattle.tune_archive.specs.Inside.Fetching.{Tells, Fetches, FailsFetch}
+use Rattle.tune_archive.specs.Inside.Fetching.{KnowsState, Fetches, FailsFetch}
 use Rattle.tune_archive.specs.Inside.Holding.{IsShelf}
 use Rattle.tune_archive.proofs.FetchLemmas.{labels_held}
 use Rattle.tune_archive.proofs.DiskMoments.{passes_on_disk}
@@ -95,7 +95,7 @@ module _ {D : Type 0} (honest : D → Type 0) (failures : D → ℕ) (state : D 
       })
 
   -- what an open archive knows in memory is that of its state
-  pub tells : (archive : Shelf D) → KeepsShelf archive → archive.closed ≡ false → HonestAt honest archive.pages.disk → Tells honest state archive
+  pub tells : (archive : Shelf D) → KeepsShelf archive → archive.closed ≡ false → HonestAt honest archive.pages.disk → KnowsState honest state archive
   tells archive holds is_open h = (let held = holds.holds h is_open in
       record { was_honest = h; labels = labels_held _ archive.contents _ held.holds; layout = held.holds.layout; sets = held.holds.sets })
 
@@ -161,7 +161,7 @@ module _ {D : Type 0} (honest : D → Type 0) (failures : D → ℕ) (state : D 
 
   -- a command that was refused as it was decided
   pub ended_refused : (old new : Shelf D) (command : Command) (why : Refusal) → KeepsShelf old → KeepsShelf new → old.closed ≡ false
-      → (Tells honest state new → IsState (state_of state old) → Decides (state_of state old) command (Err why))
+      → (KnowsState honest state new → IsState (state_of state old) → Decides (state_of state old) command (Err why))
       → EndsFetch (Fetches honest failures state) (FailsFetch honest failures state) old why new → Ended old new command (Err why)
   ended_refused old new command why was is e decides (inl ends) =
       let fetches = ends.1 in
@@ -189,7 +189,7 @@ module _ {D : Type 0} (honest : D → Type 0) (failures : D → ℕ) (state : D 
   -- what was decided, of an archive from which texts were read
   pub decided : (old mid : Shelf D) (command : Command) (plan : Plan) → KeepsShelf old → KeepsShelf mid → old.closed ≡ false
       → Fetches honest failures state old mid
-      → (Tells honest state mid → IsState (state_of state old) → Decides (state_of state old) command (Ok plan)) → HonestAt honest mid.pages.disk
+      → (KnowsState honest state mid → IsState (state_of state old) → Decides (state_of state old) command (Ok plan)) → HonestAt honest mid.pages.disk
       → step (state_of state old) command ≡ (after plan.change (state_of state old), Ok plan.reply)
   decided old mid command plan was is e fetches decides h =
       decides (tells mid is (fetches.closed ∙ e) h) (within old was e (fetches.was_honest h))
@@ -198,7 +198,7 @@ module _ {D : Type 0} (honest : D → Type 0) (failures : D → ℕ) (state : D 
   -- a change that was decided alters the state
   pub alters : (old mid : Shelf D) (command : Command) (asked : Option Change) (change : Change) → KeepsShelf old → KeepsShelf mid → old.closed ≡ false
       → Fetches honest failures state old mid
-      → (Tells honest state mid → IsState (state_of state old) → (step (state_of state old) command).0 ≡ state_of state old → asked ≡ None)
+      → (KnowsState honest state mid → IsState (state_of state old) → (step (state_of state old) command).0 ≡ state_of state old → asked ≡ None)
       → asked ≡ Some change → HonestAt honest mid.pages.disk → (step (state_of state old) command).0 ≢ state_of state old
   alters old mid command asked change was is e fetches none some h same =
       (let told = tells mid is (fetches.closed ∙ e) h in

@@ -18,7 +18,7 @@ use Rattle.tune_store.specs.Labels.{labels_of, LabelsRise}
 use Rattle.tune_store.specs.State.{State, IsState, IsTune, IsTunes}
 use Rattle.tune_store.specs.declared.catalog.Label.{Label}
 use Rattle.tune_store.specs.declared.tune.Tune.{Tune}
-use Rattle.tune_format.specs.Filed.{row_of, rows_of, archive_parts, HoldTunes, HoldsTuneAt}
+use Rattle.tune_format.specs.Filed.{row_of_tune, rows_of_tunes, archive_parts, HoldTunes, HoldsTuneAt}
 use Rattle.tune_format.specs.RootOffsets.{most_pages_of}
 use Rattle.tune_format.specs.States.{state_in}
 use Rattle.tune_format.specs.declared.rows.Row.{Row}
@@ -59,11 +59,11 @@ pub label_inside : (rows : List Row) (place : ℕ) → place < length rows → p
 label_inside rows place l = omega (arith, l, labels_count rows)
 
 -- the rows of tunes have the labels of these
-labels_there : (tunes : List Tune) (texts : List Part) → HoldTunes texts tunes → labels_in (rows_of tunes texts) ≡ labels_of tunes
+labels_there : (tunes : List Tune) (texts : List Part) → HoldTunes texts tunes → labels_in (rows_of_tunes tunes texts) ≡ labels_of tunes
 labels_there [] texts holds = refl
 labels_there (tune ∷ tunes) [] holds = absurd (tune_without tune tunes holds)
 labels_there (tune ∷ tunes) (part ∷ texts) holds =
-    ap (λ l. label_in (row_of tune part) ∷ l) (labels_there tunes texts (later_held part texts tune tunes holds))
+    ap (λ l. label_in (row_of_tune tune part) ∷ l) (labels_there tunes texts (later_held part texts tune tunes holds))
 
 pub labels_held : (s : Stand) (contents : Contents) (state : State) → HoldsContents s contents state → labels_in contents.rows.items ≡ labels_of state.tunes
 labels_held s contents state holds = ap labels_in holds.listed ∙ labels_there state.tunes holds.filed.texts holds.filed.are_tunes
@@ -98,9 +98,9 @@ text_there s contents state place first d e holds within l is =
     let inside : place < length tunes = omega (arith, l, rows_held s contents state holds) in
     let at : HoldsTuneAt texts tunes place = text_at texts tunes place are inside in
     let row = row_at_place texts tunes place at in
-    let front = rows_of at.front at.before in
-    let back = rows_of at.back at.after in
-    let mine : Row = row_of at.tune at.part in
+    let front = rows_of_tunes at.front at.before in
+    let back = rows_of_tunes at.back at.after in
+    let mine : Row = row_of_tune at.tune at.part in
     let its_row : get_or contents.rows.items place d ≡ mine = ap (λ (r : List Row). get_or r place d) (holds.listed ∙ row.0)
     ∙ ap (λ (n : ℕ). get_or (front ++ mine ∷ back) n d) (sym row.1) ∙ get_or-append_seam front mine back d in
     let its_tune : get_or tunes place e ≡ at.tune = ap (λ (ts : List Tune). get_or ts place e) at.are_tunes

@@ -23,7 +23,7 @@ use Rattle.tune_contents.specs.Holds.{HoldsContents, HoldsMemory, Memory, memory
 use Rattle.tune_contents.specs.declared.contents.Contents.{Contents}
 use Rattle.tune_archive.specs.Shelf.{Shelf, state_on, state_of, StandsForOneOf}
 use Rattle.tune_archive.specs.Inside.Changing.{CallsWhere, PassesChange, PassesLaid, HasLaid, StaysKept, StaysWithin}
-use Rattle.tune_archive.specs.Inside.Changing.{IsUnmadeChange, MakesChange, refusal_of, closes}
+use Rattle.tune_archive.specs.Inside.Changing.{IsUnmadeChange, MakesChange, refusal_of_pages, closes}
 use Rattle.tune_archive.specs.Inside.Holding.{stand_of, HoldsState, IsShelf}
 use Rattle.tune_archive.proofs.MorePages.{no_fewer}
 
@@ -223,7 +223,7 @@ module _ {D : Type 0} (honest : D → Type 0) (failures : D → ℕ) (state : D 
 
     why_unmade : (fault : Fault) → CallsWhere {T = Unit {0}} honest failures (Err fault) old.pages.disk new.pages.disk
         → new.closed ≡ closes fault → IsLayFault fault new.pages.closed → (fault ≢ Device → StaysKept honest state old.pages new.pages)
-        → (HonestAt honest new.pages.disk → fault ≢ FileFull) → IsUnmadeChange (disks_of honest failures state) (refusal_of fault) old new change
+        → (HonestAt honest new.pages.disk → fault ≢ FileFull) → IsUnmadeChange (disks_of honest failures state) (refusal_of_pages fault) old new change
     why_unmade FileFull calls is answer stays never = inr (refl, is, (λ h. absurd (never h refl)), (λ h. absurd (never h refl)))
     why_unmade OutOfMemory calls is answer stays never = inl (refl, is, (stays (λ same. cc)).disk)
     why_unmade Device calls is answer stays never = inr (
@@ -235,13 +235,13 @@ module _ {D : Type 0} (honest : D → Type 0) (failures : D → ℕ) (state : D 
     )
     why_unmade Closed calls is answer stays never = absurd answer
 
-    unmade_here : MakesChange (disks_of honest failures state) (Err (refusal_of fault)) old new change
+    unmade_here : MakesChange (disks_of honest failures state) (Err (refusal_of_pages fault)) old new change
     unmade_here = record {
       was_honest = calls.was_honest;
       moments = λ h. passes_now h (calls.was_honest h);
       made = why_unmade fault calls shuts answer stays never;
     }
 
-    pub unmade : (refusal : Refusal) → refusal ≡ refusal_of fault → MakesChange (disks_of honest failures state) (Err refusal) whole new change
+    pub unmade : (refusal : Refusal) → refusal ≡ refusal_of_pages fault → MakesChange (disks_of honest failures state) (Err refusal) whole new change
     unmade refusal is = subst (λ (s : Shelf D). MakesChange (disks_of honest failures state) (Err refusal) s new change) same
         (subst (λ (r : Refusal). MakesChange (disks_of honest failures state) (Err r) old new change) (sym is) unmade_here)

@@ -44,7 +44,7 @@ use Rattle.tune_contents.specs.declared.contents.Contents.{Contents}
 use Rattle.tune_contents.proofs.ClaimListLemmas.{state_some}
 use Rattle.tune_archive.specs.Inside.Holding.{stand_of, HoldsState, IsShelf}
 use Rattle.tune_archive.specs.Inside.Opening.{IsUnclaimedFor}
-use Rattle.tune_archive.specs.OpenedArchive.{disk_of, StandsForNoneOrEmpty, KeepsStates, IsUnopenedArchiveFor}
+use Rattle.tune_archive.specs.OpenedArchive.{disk_left_of, StandsForNoneOrEmpty, KeepsStates, IsUnopenedArchiveFor}
 use Rattle.tune_archive.specs.Shelf.{Shelf, IsSound, state_on, StandsForOneOf}
 
 -- WHAT PAGES HOLD
@@ -287,7 +287,7 @@ undone NotEmpty pages new contents claimed same claims less = absurd less
 undone Device pages new contents claimed same claims less = absurd less
 
 pub unclaimed : {D : Type 0} (honest : D → Type 0) (disk : D) (pages new : List (List ℕ)) (contents : Contents) (claimed : List Bool)
-    (result : Result (Shelf D) (Refused D)) → disk_of result ≡ Some disk → (honest disk → new ≡ pages)
+    (result : Result (Shelf D) (Refused D)) → disk_left_of result ≡ Some disk → (honest disk → new ≡ pages)
     → (honest disk → 0 < length pages → IsClaimed pages contents claimed)
     → IfErr result (λ refused. IsUndoneFor refused.why (most_pages_of contents.layout) (length new))
     → IfErr result (λ refused. honest refused.disk → IsUnclaimedFor refused.why pages)
@@ -342,7 +342,7 @@ opened_state {D} honest state disk kept pages contents archive shelf same_disk s
 
 -- of the pages that the disk shows, and so did before they were claimed
 pub claimed_state : {D : Type 0} (honest : D → Type 0) (state : D → DiskState) (disk : D) (old new : List (List ℕ))
-    (result : Result (Shelf D) (Refused D)) → disk_of result ≡ Some disk → (honest disk → new ≡ old)
+    (result : Result (Shelf D) (Refused D)) → disk_left_of result ≡ Some disk → (honest disk → new ≡ old)
     → IfOk result (λ archive. honest disk → IsStateOf new (state_on state archive.pages.disk))
     → IfOk result (λ archive. HonestAt honest archive.pages.disk → IsStateOf old (state_on state archive.pages.disk))
 claimed_state honest state disk old new (Err refused) same pages is = tt
@@ -407,7 +407,7 @@ made_sound honest state stays archive image root rest = record {
 -- Pages that could not be claimed are those that the disk shows, so they tell of its file.
 pub archive_refused : {D : Type 0} (honest : D → Type 0) (state : D → DiskState) (disk : D) (pages : List (List ℕ)) (old : DiskState)
     → (result : Result (Shelf D) (Refused D))
-    → (HonestAt honest (disk_of result) → honest disk × (state_at state (disk_of result) ≡ state disk))
+    → (HonestAt honest (disk_left_of result) → honest disk × (state_at state (disk_left_of result) ≡ state disk))
     → (honest disk → Shown pages old (state disk))
     → IfErr result (λ refused. honest refused.disk → IsUnclaimedFor refused.why pages)
     → IfErr result (λ refused. honest refused.disk → IsUnopenedArchiveFor refused.why old (state refused.disk))

@@ -17,9 +17,9 @@ use Rattle.tune_format.specs.States.{Holds}
 use Rattle.tune_archive.specs.Shelf.{Shelf, StandsForOneOf}
 
 -- the disk that a call answers, in an archive or on its own
-abbrev pub disk_of : {D : Type 0} → Result (Shelf D) (Refused D) → Option D
-disk_of (Ok archive) = archive.pages.disk
-disk_of (Err refused) = Some refused.disk
+abbrev pub disk_left_of : {D : Type 0} → Result (Shelf D) (Refused D) → Option D
+disk_left_of (Ok archive) = archive.pages.disk
+disk_left_of (Err refused) = Some refused.disk
 
 -- no archive, or an empty one
 abbrev pub StandsForNoneOrEmpty : List ℕ → Type 0

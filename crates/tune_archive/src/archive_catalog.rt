@@ -29,7 +29,8 @@ impl<D: Disk> Catalog for Archive<D> {
     ghost use Rattle.tune_store.specs.Labels.{labels_of};
     ghost use Rattle.tune_store.specs.StoreStops.{HasFailed};
     ghost use Rattle.tune_archive.specs.Shelf.{state_of};
-    ghost use Rattle.tune_archive.specs.Inside.Fetching.{Tells, HasFetched, Fetches, FailsFetch};
+    ghost use Rattle.tune_archive.specs.Inside.Fetching.{KnowsState, HasFetched, Fetches};
+    ghost use Rattle.tune_archive.specs.Inside.Fetching.{FailsFetch};
 
     ghost labels = { λ archive. labels_in archive.contents.rows.items };
 
@@ -39,7 +40,7 @@ impl<D: Disk> Catalog for Archive<D> {
 
     ghost state = { state_of D.Disk.state };
 
-    ghost honest = { Tells D.Disk.honest D.Disk.state };
+    ghost honest = { KnowsState D.Disk.honest D.Disk.state };
 
     ghost at_hand = { HasFetched D.Disk.honest D.Disk.state };
 

@@ -11,7 +11,8 @@ ghost use Rattle.tune_store.specs.Plans.{CanChange, changed};
 ghost use Rattle.tune_store.specs.State.{IsState};
 ghost use Rattle.tune_archive.specs.Shelf.{state_of};
 ghost use Rattle.tune_archive.specs.Inside.Changing.{CallsWhere, PassesChange, HasLaid, StaysKept};
-ghost use Rattle.tune_archive.specs.Inside.Changing.{StaysWithin, refusal_of, closes, MakesChange};
+ghost use Rattle.tune_archive.specs.Inside.Changing.{StaysWithin, refusal_of_pages, closes};
+ghost use Rattle.tune_archive.specs.Inside.Changing.{MakesChange};
 ghost use Rattle.tune_archive.specs.Inside.Holding.{stand_of};
 
 use crate::archive::Archive;
@@ -24,7 +25,7 @@ use tune_store::{Change, Layout, Refusal};
 // The refusal that tells of a fault of pages. No archive that a device keeps as it was written
 // comes to have too few pages.
 fn refusal_of(fault: Fault) -> Refusal
-    ensures { result ≡ refusal_of fault }
+    ensures { result ≡ refusal_of_pages fault }
 {
     match fault {
         Fault::OutOfMemory => Refusal::OutOfMemory,

@@ -17,7 +17,7 @@ ghost use Rattle.tune_search.specs.Empty.{no_indexes, no_leaves};
 ghost use Rattle.tune_format.specs.States.{IsStateOf, Holds};
 ghost use Rattle.tune_format.specs.Written.{no_firsts};
 ghost use Rattle.tune_contents.specs.Claimed.{AreRows, IsClaimed};
-ghost use Rattle.tune_archive.specs.OpenedArchive.{disk_of, StandsForNoneOrEmpty, KeepsStates};
+ghost use Rattle.tune_archive.specs.OpenedArchive.{disk_left_of, StandsForNoneOrEmpty, KeepsStates};
 ghost use Rattle.tune_archive.specs.OpenedArchive.{IsUnopenedArchiveFor};
 ghost use Rattle.tune_archive.specs.Inside.Opening.{reason_of, IsUnclaimedFor};
 ghost use Rattle.tune_archive.specs.Shelf.{state_of, IsSound};
@@ -92,9 +92,9 @@ impl<D: Disk> Archive<D> {
     /// `NotEmpty` where the disk has a byte; `OutOfMemory`, before anything is done; `Device` where
     /// the device failed. The disk is handed back.
     pub fn make(alloc: Global, disk: D) -> Result<Archive<D>, Refused<D>>
-        ensures honest { HonestAt D.honest (disk_of result) → D.honest disk }
-        ensures moments { let new = state_at D.state (disk_of result) in
-            HonestAt D.honest (disk_of result) → LeavesOnly (D.state disk).now IsEmptyFile
+        ensures honest { HonestAt D.honest (disk_left_of result) → D.honest disk }
+        ensures moments { let new = state_at D.state (disk_left_of result) in
+            HonestAt D.honest (disk_left_of result) → LeavesOnly (D.state disk).now IsEmptyFile
             → SinceThen (D.state disk) new StandsForNoneOrEmpty }
         ensures state { IfOk result (λ archive. HonestAt D.honest archive.pages.disk
             → state_of D.state archive ≡ empty_of Two) }
@@ -129,14 +129,15 @@ impl<D: Disk> Archive<D> {
     /// `NotArchive` where the file does not begin as an archive does; `Damaged` where it stands for
     /// no state; `OutOfMemory`; `Device` where the device failed. The disk is handed back.
     pub fn open(alloc: Global, disk: D) -> Result<Archive<D>, Refused<D>>
-        ensures honest { HonestAt D.honest (disk_of result) → D.honest disk }
-        ensures leaves { let old = D.state disk in let new = state_at D.state (disk_of result) in
-            HonestAt D.honest (disk_of result) → SinceThen old new (LeftOrSame old) }
-        ensures moments { HonestAt D.honest (disk_of result)
-            → KeepsStates (D.state disk) (state_at D.state (disk_of result)) }
-        ensures untouched { HonestAt D.honest (disk_of result)
+        ensures honest { HonestAt D.honest (disk_left_of result) → D.honest disk }
+        ensures leaves { let old = D.state disk in let new = state_at D.state
+            (disk_left_of result) in
+            HonestAt D.honest (disk_left_of result) → SinceThen old new (LeftOrSame old) }
+        ensures moments { HonestAt D.honest (disk_left_of result)
+            → KeepsStates (D.state disk) (state_at D.state (disk_left_of result)) }
+        ensures untouched { HonestAt D.honest (disk_left_of result)
             → gate_of (D.state disk).seen ≢ gate_open
-            → IsUnwritten (D.state disk) (state_at D.state (disk_of result)) }
+            → IsUnwritten (D.state disk) (state_at D.state (disk_left_of result)) }
         ensures state { IfOk result (λ archive. HonestAt D.honest archive.pages.disk
             → Holds (D.state disk).seen (state_of D.state archive)) }
         ensures sound { IfOk result (λ archive. IsSound D.honest D.state archive) }
@@ -157,8 +158,8 @@ impl<D: Disk> Archive<D> {
     fn claimed(alloc: Global, mut opening: Opening<D>) -> Result<Archive<D>, Refused<D>>
         requires root { opening.claimed ≡ only_root (length opening.pages) }
         requires rest { LeavesPages D.honest D.state opening.disk opening.pages }
-        ensures same { HonestAt D.honest (disk_of result) → D.honest opening.disk
-            × (state_at D.state (disk_of result) ≡ D.state opening.disk) }
+        ensures same { HonestAt D.honest (disk_left_of result) → D.honest opening.disk
+            × (state_at D.state (disk_left_of result) ≡ D.state opening.disk) }
         ensures state { IfOk result (λ archive. HonestAt D.honest archive.pages.disk
             → IsStateOf opening.pages (state_of D.state archive)) }
         ensures sound { IfOk result (λ archive. IsSound D.honest D.state archive) }
@@ -190,7 +191,7 @@ impl<D: Disk> Archive<D> {
         requires claimed { D.honest opening.disk → 0 < length opening.pages
             → IsClaimed opening.pages contents opening.claimed }
         requires rows { AreRows contents.layout contents.rows.items }
-        ensures disk { disk_of result ≡ Some opening.disk }
+        ensures disk { disk_left_of result ≡ Some opening.disk }
         ensures state { IfOk result (λ archive. D.honest opening.disk
             → IsStateOf opening.pages (state_of D.state archive)) }
         ensures sound { IfOk result (λ archive. IsSound D.honest D.state archive) }

@@ -8,7 +8,7 @@ use Rattle.tune_store.specs.declared.catalog.Label.{Label}
 use Rattle.tune_store.specs.declared.command.Refusal.{Refusal}
 use Rattle.tune_store.specs.declared.command.Refusal.TheVariants.{OutOfMemory, Device}
 use Rattle.tune_store.specs.declared.tune_store.TuneStore.{Ghosts}
-use Rattle.tune_scripts.specs.Carried.{Carried, CarriesOut}
+use Rattle.tune_scripts.specs.Carried.{Carried, CarriesAllOut}
 use Rattle.tune_scripts.proofs.CarriedLemmas.{carries_more}
 use Rattle.tune_asking.specs.Asking.{IsOnlyAsked, CarriesOutQuestions, IsFault, IsToldOrFault}
 use Rattle.tune_asking.specs.AskingCalls.{Call, Meaning, told_where, told_by}

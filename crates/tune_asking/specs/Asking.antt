@@ -1,7 +1,7 @@
 -- A store of which questions alone are asked.
 use Rattle.std.specs.Prelude.{◌≡◌, ◌⊎◌, List, true, false, Result, Ok, Err, MatchResult}
 use Rattle.std.specs.List.{AllByRecursion}
-use Rattle.tune_scripts.specs.Carried.{Carried, CarriesOut}
+use Rattle.tune_scripts.specs.Carried.{Carried, CarriesAllOut}
 use Rattle.tune_store.specs.Answers.{asks}
 use Rattle.tune_store.specs.declared.command.Refusal.{Refusal}
 use Rattle.tune_store.specs.declared.command.Refusal.TheVariants.{OutOfMemory, Device}
@@ -10,7 +10,7 @@ use Rattle.tune_store.specs.declared.tune_store.TuneStore.{Ghosts}
 -- From one store to another by questions alone, one after another, each by one call.
 pub record CarriesOutQuestions {S : Type 0} (kept : Ghosts S) (old new : S) : Type 0 where
   pub carried : List (Carried S)
-  pub carries_out : CarriesOut kept old carried new
+  pub carries_out : CarriesAllOut kept old carried new
   pub questions : AllByRecursion (λ next. asks next.command ≡ true) carried
 
 -- A store was asked questions, and nothing else: it is as it was, and so is its device.

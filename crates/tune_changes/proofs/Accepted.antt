@@ -14,7 +14,7 @@ use Rattle.tune_books.proofs.ReadBack.{book_gives_back}
 use Rattle.tune_sets.specs.Limits.{most_places, most_sets}
 use Rattle.tune_sets.specs.Calls.{create_unless, create_set, add_to}
 use Rattle.tune_sets.specs.Names.{is_good_name}
-use Rattle.tune_sets.specs.Sets.{IsTuneSet, set_at, holder, inserted, without}
+use Rattle.tune_sets.specs.Sets.{IsTuneSet, set_at, holder, set_inserted, without_set}
 use Rattle.tune_sets.specs.declared.set_lists.TuneSet.{TuneSet}
 use Rattle.tune_sets.specs.declared.faults.SetFault.{SetFault}
 use Rattle.tune_store.specs.Limits.{longest_text, most_tunes, greatest_number, greatest_revision}
@@ -30,7 +30,7 @@ use Rattle.tune_store.specs.declared.command.Reply.TheVariants.{SetMade, SetAdde
 use Rattle.tune_store.proofs.NamedLemmas.{held_at}
 use Rattle.tune_changes.specs.SubjectTurns.{Subject}
 use Rattle.tune_changes.specs.SubjectTurns.Subject.{TuneOf, SetOf}
-use Rattle.tune_changes.specs.Bringing.{book_with, renumbered, tune_commands, common_front, cut_behind, relaid, set_commands, brought}
+use Rattle.tune_changes.specs.Bringing.{book_with, renumber_commands, tune_commands, common_front, cut_behind, relaid, set_commands, brought}
 use Rattle.tune_changes.specs.CommandRuns.{after_commands, AreAccepted}
 use Rattle.tune_changes.specs.Undoing.{CanBeReplaced, CanBeText, CanBePlaces, CanBeMade, CanBeNumbers, CanBe, IsGiven}
 use Rattle.tune_changes.proofs.SetListLemmas.{named, found_name, none_without, set_out_already, set_out_and_in, set_found_in, all_found_set}
@@ -106,14 +106,14 @@ number_named state from number ok = elim (cases_Bool (is_number number)) [
   | inr bad ↦ let none = rw bad at ok in cc
 ]
 
-named_after : (state mid : State) (number : ℕ) → greatest state.tunes < greatest_number → AreAccepted (renumbered (greatest state.tunes + 1) number) mid
+named_after : (state mid : State) (number : ℕ) → greatest state.tunes < greatest_number → AreAccepted (renumber_commands (greatest state.tunes + 1) number) mid
     → is_number number ≡ true
 named_after state mid number next accepted = elim (cases_Bool (eqb (greatest state.tunes + 1) number)) [
   | inl same ↦
       let e = eqb-true (greatest state.tunes + 1) number same in
       rw (lt-ltb 0 number (omega arith), le-leb number greatest_number (omega arith)) refl
   | inr other ↦
-      let one : renumbered (greatest state.tunes + 1) number ≡ Renumber (greatest state.tunes + 1) number ∷ [] = rw other refl in
+      let one : renumber_commands (greatest state.tunes + 1) number ≡ Renumber (greatest state.tunes + 1) number ∷ [] = rw other refl in
       let has : AreAccepted (Renumber (greatest state.tunes + 1) number ∷ []) mid = subst (λ (some : List Command). AreAccepted some mid) one accepted in
       number_named mid (greatest state.tunes + 1) number has.0
 ]
@@ -198,7 +198,7 @@ add_only : (state : State) (name : List ℕ) (base : List TuneSet) (numbers : Li
     → is_ok (set_add_found (holding state name base numbers) name number found).1 ≡ true → (is_some found ≡ true) × (length numbers < most_places)
 add_only state name base numbers number None none ok = cc
 add_only state name base numbers number (Some tune) none ok =
-    let all = inserted (named name numbers) base in
+    let all = set_inserted (named name numbers) base in
     let there = set_found_in name numbers base none in
     let answer : Option TuneSet → Bool = λ found. is_ok (sets_answer (λ place. SetAdded name place) (add_to name number all found).1) in
     let at : answer (Some (named name numbers)) ≡ true = ap answer (sym there) ∙ ok in
@@ -294,11 +294,11 @@ set_only : (state : State) (name : List ℕ) (found : Option TuneSet) (to : Opti
 set_only state name None None is e accepted = tt
 set_only state name (Some set) None is e accepted = tt
 set_only state name None (Some new) is e accepted =
-    let same : without name state.sets ≡ state.sets = set_out_already name state.sets e in
-    let base = without name state.sets in
+    let same : without_set name state.sets ≡ state.sets = set_out_already name state.sets e in
+    let base = without_set name state.sets in
     let none = none_without [] name state.sets is.sets.rises in
     let made = new_only name state (answer_ok (λ done. SetMade name) _ accepted.0) in
-    let room : length (without name state.sets) < most_sets = subst (λ (sets : List TuneSet). length sets < most_sets) (sym same) made.room in
+    let room : length (without_set name state.sets) < most_sets = subst (λ (sets : List TuneSet). length sets < most_sets) (sym same) made.room in
     let begun : (step state (SetNew name)).0 ≡ holding state name base [] =
     ap (λ (sets : List TuneSet). (step (listed state sets) (SetNew name)).0) (sym same)
     ∙ ap (λ (outcome : Outcome). outcome.0) (new_gives state name base none made.good room) in
@@ -307,10 +307,10 @@ set_only state name None (Some new) is e accepted =
     (made, record { few = omega arith; held = later.1 })
 set_only state name (Some set) (Some new) is e accepted =
     let its = found_name name state.sets set e in
-    let base = without name state.sets in
+    let base = without_set name state.sets in
     let none = none_without [] name state.sets is.sets.rises in
-    let whole : state.sets ≡ inserted (named name set.numbers) base =
-    sym (set_out_and_in [] name set state.sets is.sets.rises e) ∙ ap (λ (n : List ℕ). inserted (named n set.numbers) base) its in
+    let whole : state.sets ≡ set_inserted (named name set.numbers) base =
+    sym (set_out_and_in [] name set state.sets is.sets.rises e) ∙ ap (λ (n : List ℕ). set_inserted (named n set.numbers) base) its in
     relaid_only state name base set.numbers new none (places_were state name set is e)
     (subst (λ (s : State). AreAccepted (relaid name set.numbers new) s) (ap (listed state) whole) accepted)
 

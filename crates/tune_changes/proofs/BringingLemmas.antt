@@ -20,7 +20,7 @@ use Rattle.tune_store.specs.Step.{step}
 use Rattle.tune_store.specs.TuneSteps.{TunesOutcome, import_book, with_texts}
 use Rattle.abc_fields.specs.Books.{Texts, book_answer}
 use Rattle.tune_changes.specs.Aims.{aim_for, aimed_back, brought_about, turn_of}
-use Rattle.tune_changes.specs.Bringing.{brought, brought_each, common_front, cut_behind, relaid, renumbered, set_commands, tune_commands}
+use Rattle.tune_changes.specs.Bringing.{brought, brought_each, common_front, cut_behind, relaid, renumber_commands, set_commands, tune_commands}
 use Rattle.tune_changes.specs.CommandRuns.{after_commands}
 use Rattle.tune_changes.specs.declared.turns.Aim as told_aim
 use Rattle.tune_changes.specs.declared.turns.Turn as told
@@ -106,7 +106,7 @@ deletes_some last number None e = absurd cc
 deletes_some last number (Some tune) e = refl
 
 -- a tune that gets another number
-pub renumbers_other : (number to : ℕ) → (number ≡ to → ⊥) → renumbered number to ≡ Renumber number to ∷ []
+pub renumbers_other : (number to : ℕ) → (number ≡ to → ⊥) → renumber_commands number to ≡ Renumber number to ∷ []
 renumbers_other number to other = ap (λ (same : Bool). cond same [] (Renumber number to ∷ [])) (ne_eqb number to other)
 
 -- a tune that goes in gets the number after the greatest

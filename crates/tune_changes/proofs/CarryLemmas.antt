@@ -14,13 +14,13 @@ use Rattle.tune_store.specs.declared.command.Reply.{Reply}
 use Rattle.tune_store.specs.declared.command.Refusal.{Refusal}
 use Rattle.tune_store.specs.declared.command.Refusal.TheVariants.{OutOfMemory, Device}
 use Rattle.tune_store.specs.declared.tune_store.TuneStore.{Ghosts}
-use Rattle.tune_scripts.specs.Carried.{Carried, CarriesOut, IsCarried, run_of}
+use Rattle.tune_scripts.specs.Carried.{Carried, CarriesAllOut, IsCarried, run_of}
 use Rattle.tune_scripts.proofs.CarriedLemmas.{carries_more}
 use Rattle.tune_asking.specs.Asking.{IsOnlyAsked, IsFault}
 use Rattle.tune_asking.specs.AskingCalls.{Call, Meaning}
 use Rattle.tune_asking.proofs.CallLemmas.{asked_none}
-use Rattle.tune_changes.specs.Carrying.{Carries, CarriesOutSome, CarriesAll, CarriesFront, EndsAt, answered, changes_of}
-use Rattle.tune_changes.specs.CommandRuns.{AreAccepted, LeadsTo, after_commands}
+use Rattle.tune_changes.specs.Carrying.{Carries, CarriesOutSome, CarriesAll, CarriesFront, EndsAtRefusal, answered, changes_of}
+use Rattle.tune_changes.specs.CommandRuns.{AreAccepted, LeadsAccepted, after_commands}
 
 -- LISTS OF COMMANDS
 pub after_more : (a b : List Command) (state : State) → after_commands (a ++ b) state ≡ after_commands b (after_commands a state)
@@ -31,7 +31,7 @@ accepted_more : (a b : List Command) (state : State) → AreAccepted a state →
 accepted_more [] b state h k = k
 accepted_more (command ∷ a) b state h k = (h.0, accepted_more a b (step state command).0 h.1 k)
 
-pub leads_more : (a b : List Command) (old mid new : State) → LeadsTo old a mid → LeadsTo mid b new → LeadsTo old (a ++ b) new
+pub leads_more : (a b : List Command) (old mid new : State) → LeadsAccepted old a mid → LeadsAccepted mid b new → LeadsAccepted old (a ++ b) new
 leads_more a b old mid new h k =
     (accepted_more a b old h.0 (subst (λ (state : State). AreAccepted b state) (sym h.1) k.0), after_more a b old ∙ ap (after_commands b) h.1 ∙ k.1)
 
@@ -40,7 +40,7 @@ answered_split [] b state = refl
 answered_split (command ∷ a) b state =
     ap (λ (run : List Answered). record { command = command; answer = (step state command).1 } ∷ run) (answered_split a b (step state command).0)
 
-pub answered_more : (a b : List Command) (old mid : State) → LeadsTo old a mid → answered (a ++ b) old ≡ answered a old ++ answered b mid
+pub answered_more : (a b : List Command) (old mid : State) → LeadsAccepted old a mid → answered (a ++ b) old ≡ answered a old ++ answered b mid
 answered_more a b old mid h = answered_split a b old ∙ ap (λ (state : State). answered a old ++ answered b state) h.1
 
 -- RUNS
@@ -74,8 +74,8 @@ pub one_change : (command : Command) (answer : Result Reply Refusal) → asks co
 one_change command answer is = ap (λ (b : Bool). cond (not b) (record { command = command; answer = answer } ∷ []) []) is
 
 -- what ended at a command ended there whatever was left behind it
-ends_more : (state : State) (left more : List Command) (run : List Answered) (refusal : Refusal) (new : Standing) → EndsAt state left run refusal new
-    → EndsAt state (left ++ more) run refusal new
+ends_more : (state : State) (left more : List Command) (run : List Answered) (refusal : Refusal) (new : Standing) → EndsAtRefusal state left run refusal new
+    → EndsAtRefusal state (left ++ more) run refusal new
 ends_more state left more [] refusal new h = h
 ends_more state (command ∷ left) more (last ∷ []) refusal new h = h
 ends_more state [] more (last ∷ []) refusal new h = absurd h
@@ -103,12 +103,12 @@ pub record IsFirst (old here : Standing) (whole left : List Command) (run : List
   pub done : List Command
   pub front : whole ≡ done ++ left
   pub just : changes_of run ≡ answered done old.state
-  pub leads : LeadsTo old.state done here.state
+  pub leads : LeadsAccepted old.state done here.state
 
 module _ {S : Type 0} (k : Ghosts S) where
   pub record CarriesFirst (old here : S) (whole left : List Command) : Type 0 where
     pub carried : List (Carried S)
-    pub carries_out : CarriesOut k old carried here
+    pub carries_out : CarriesAllOut k old carried here
     pub so_far : k.closed old ≡ false → IsFirst (standing_of k old) (standing_of k here) whole left (run_of carried)
 
   -- so far a front of the commands was carried out, and these are left
@@ -182,7 +182,7 @@ module _ {S : Type 0} (k : Ghosts S) where
                 just = changes_append first.carried more.carried
                     ∙ ap (λ (run : List Answered). changes_of (run_of first.carried) ++ run) (no_changes more.carried more.questions)
                     ∙ append-nil (changes_of (run_of first.carried)) ∙ f.just;
-                leads = subst (λ (state : State). LeadsTo (k.state old) f.done state) (sym (asked.same_state h)) f.leads;
+                leads = subst (λ (state : State). LeadsAccepted (k.state old) f.done state) (sym (asked.same_state h)) f.leads;
               };
         };
   }
@@ -209,7 +209,7 @@ module _ {S : Type 0} (k : Ghosts S) where
               let all : whole ≡ f.done = f.front ∙ ap (λ (c : List Command). f.done ++ c) (e is_open h) ∙ append-nil f.done in
               record {
                 just = f.just ∙ ap (λ (c : List Command). answered c (k.state old)) (sym all);
-                leads = subst (λ (c : List Command). LeadsTo (k.state old) c (k.state new)) (sym all) f.leads;
+                leads = subst (λ (c : List Command). LeadsAccepted (k.state old) c (k.state new)) (sym all) f.leads;
               };
         };
   })

@@ -5,11 +5,11 @@ use Rattle.std.proofs.Common.{◌≢◌, ◌∷◌, cond, eqb, ltb}
 use Rattle.std.specs.Str.{bytes_eq}
 use Rattle.std.proofs.lemmas.Bool.{cases_Bool, ne_eqb}
 use Rattle.std.proofs.lemmas.Slice.Eq.{bytes_eq-Decides}
-use Rattle.tune_sets.specs.Sets.{set_at, inserted as set_inserted, without as without_set}
+use Rattle.tune_sets.specs.Sets.{set_at, set_inserted as set_inserted, without_set as without_set}
 use Rattle.tune_sets.specs.declared.set_lists.TuneSet.{TuneSet}
 use Rattle.tune_sets.proofs.PlaceLemmas.{set_at-inserted_other, set_at-without_other}
-use Rattle.tune_store.specs.State.{State, RisesFrom, tune_at, IsState}
-use Rattle.tune_store.specs.TuneSteps.{inserted, without}
+use Rattle.tune_store.specs.State.{State, NumbersRiseFrom, tune_at, IsState}
+use Rattle.tune_store.specs.TuneSteps.{tune_inserted, without_tune}
 use Rattle.tune_store.specs.declared.tune.Tune.{Tune}
 use Rattle.tune_store.proofs.PlaceLemmas.{tune_at-number, tune_at-without_same, tune_at-without_other}
 use Rattle.tune_changes.specs.SubjectTurns.{Subject, text_at, numbers_at, content}
@@ -24,8 +24,8 @@ plain_tune number text = record { number = number; revision = 1; text = text }
 
 -- tunes without revisions, in which the one of a number has this text, or is not there
 abbrev pub plain_text : ℕ → Option (List ℕ) → List Tune → List Tune
-plain_text number None tunes = without number tunes
-plain_text number (Some text) tunes = inserted (plain_tune number text) (without number tunes)
+plain_text number None tunes = without_tune number tunes
+plain_text number (Some text) tunes = tune_inserted (plain_tune number text) (without_tune number tunes)
 
 -- the same of a state without revisions
 abbrev pub plain : Subject → Option (List ℕ) → State → State
@@ -58,21 +58,21 @@ anew_with number tunes (Some tune) text e =
 put_anew : (number : ℕ) (to : Option (List ℕ)) (tunes : List Tune) → all_anew (put_text number to tunes) ≡ plain_text number to (all_anew tunes)
 put_anew number None tunes = without_anew number tunes
 put_anew number (Some text) tunes =
-    inserted_anew (tune_with number (tune_at number tunes) text) (without number tunes)
-    ∙ ap (λ (t : Tune). inserted t (all_anew (without number tunes))) (anew_with number tunes (tune_at number tunes) text refl)
-    ∙ ap (λ (ts : List Tune). inserted (plain_tune number text) ts) (without_anew number tunes)
+    inserted_anew (tune_with number (tune_at number tunes) text) (without_tune number tunes)
+    ∙ ap (λ (t : Tune). tune_inserted t (all_anew (without_tune number tunes))) (anew_with number tunes (tune_at number tunes) text refl)
+    ∙ ap (λ (ts : List Tune). tune_inserted (plain_tune number text) ts) (without_anew number tunes)
 
 pub face_with : (subject : Subject) (to : Option (List ℕ)) (state : State) → face (with_content subject to state) ≡ plain subject to (face state)
 face_with (TuneOf number) to state = ap (λ (ts : List Tune). record { layout = state.layout; tunes = ts; sets = state.sets }) (put_anew number to state.tunes)
 face_with (SetOf name) to state = refl
 
 -- WHAT IS PUT IS THERE
-text_put : (number : ℕ) (to : Option (List ℕ)) (tunes : List Tune) → RisesFrom 0 tunes
+text_put : (number : ℕ) (to : Option (List ℕ)) (tunes : List Tune) → NumbersRiseFrom 0 tunes
     → option_map (λ (t : Tune). t.text) (tune_at number (plain_text number to tunes)) ≡ to
 text_put number None tunes rises = ap (λ (found : Option Tune). option_map (λ (t : Tune). t.text) found) (tune_at-without_same 0 number tunes rises)
 text_put number (Some text) tunes rises =
     ap (λ (found : Option Tune). option_map (λ (t : Tune). t.text) found)
-    (found_in number (plain_tune number text) (without number tunes) refl (tune_at-without_same 0 number tunes rises))
+    (found_in number (plain_tune number text) (without_tune number tunes) refl (tune_at-without_same 0 number tunes rises))
 
 numbers_put : (name : List ℕ) (to : Option (List ℕ)) (state : State) → IsState state
     → option_map (λ (s : TuneSet). s.numbers) (set_at name (put_numbers name to state.sets)) ≡ to
@@ -88,22 +88,22 @@ content_plain (SetOf name) to state is = numbers_put name to state is
 
 -- WHAT WAS IS PUT BACK
 -- a number is put once, whatever was put before
-text_twice : (number : ℕ) (to was : Option (List ℕ)) (tunes : List Tune) → RisesFrom 0 tunes
-    → without number (plain_text number to tunes) ≡ without number tunes
-text_twice number None was tunes rises = out_already number (without number tunes) (tune_at-without_same 0 number tunes rises)
+text_twice : (number : ℕ) (to was : Option (List ℕ)) (tunes : List Tune) → NumbersRiseFrom 0 tunes
+    → without_tune number (plain_text number to tunes) ≡ without_tune number tunes
+text_twice number None was tunes rises = out_already number (without_tune number tunes) (tune_at-without_same 0 number tunes rises)
 text_twice number (Some text) was tunes rises =
-    in_and_out number (plain_tune number text) (without number tunes) refl (tune_at-without_same 0 number tunes rises)
+    in_and_out number (plain_tune number text) (without_tune number tunes) refl (tune_at-without_same 0 number tunes rises)
 
-text_over : (number : ℕ) (was : Option (List ℕ)) (some more : List Tune) → without number some ≡ without number more
+text_over : (number : ℕ) (was : Option (List ℕ)) (some more : List Tune) → without_tune number some ≡ without_tune number more
     → plain_text number was some ≡ plain_text number was more
 text_over number None some more same = same
-text_over number (Some text) some more same = ap (inserted (plain_tune number text)) same
+text_over number (Some text) some more same = ap (tune_inserted (plain_tune number text)) same
 
-text_own : (number : ℕ) (found : Option Tune) (tunes : List Tune) → RisesFrom 0 tunes → tune_at number tunes ≡ found
+text_own : (number : ℕ) (found : Option Tune) (tunes : List Tune) → NumbersRiseFrom 0 tunes → tune_at number tunes ≡ found
     → plain_text number (option_map (λ (t : Tune). t.text) found) (all_anew tunes) ≡ all_anew tunes
 text_own number None tunes rises e = out_already number (all_anew tunes) (found_anew number tunes ∙ ap (option_map anew) e)
 text_own number (Some tune) tunes rises e =
-    ap (λ n. inserted (plain_tune n tune.text) (without number (all_anew tunes))) (sym (tune_at-number number tunes tune e))
+    ap (λ n. tune_inserted (plain_tune n tune.text) (without_tune number (all_anew tunes))) (sym (tune_at-number number tunes tune e))
     ∙ out_and_in 0 number (anew tune) (all_anew tunes) (rises_anew 0 tunes rises) (found_anew number tunes ∙ ap (option_map anew) e)
 
 text_back : (number : ℕ) (to : Option (List ℕ)) (state : State) → IsState state
@@ -145,7 +145,7 @@ plain_back (SetOf name) to state is =
     ap (λ (ss : List TuneSet). record { layout = state.layout; tunes = all_anew state.tunes; sets = ss }) (numbers_back name to state is)
 
 -- ALL ELSE IS AS IT WAS
-text_in : (number : ℕ) (new : Tune) (tunes : List Tune) → new.number ≢ number → tune_at number (inserted new tunes) ≡ tune_at number tunes
+text_in : (number : ℕ) (new : Tune) (tunes : List Tune) → new.number ≢ number → tune_at number (tune_inserted new tunes) ≡ tune_at number tunes
 text_in number new [] apart = rw (ne_eqb new.number number apart) refl
 text_in number new (tune ∷ tunes) apart = elim (cases_Bool (ltb new.number tune.number)) [
   | inl before ↦ rw (before, ne_eqb new.number number apart) refl
@@ -164,7 +164,7 @@ other_text number other None tunes apart = tune_at-without_other other number tu
 other_text number other (Some text) tunes apart =
     let new = tune_with number (tune_at number tunes) text in
     let its = number_with number (tune_at number tunes) text tunes refl in
-    text_in other new (without number tunes) (λ e. apart (sym its ∙ e)) ∙ tune_at-without_other other number tunes apart
+    text_in other new (without_tune number tunes) (λ e. apart (sym its ∙ e)) ∙ tune_at-without_other other number tunes apart
 
 other_numbers : (name other : List ℕ) (to : Option (List ℕ)) (sets : List TuneSet) → name ≢ other → set_at other (put_numbers name to sets) ≡ set_at other sets
 other_numbers name other None sets apart = set_at-without_other name other sets (λ e. apart (sym e))

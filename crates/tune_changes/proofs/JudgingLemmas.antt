@@ -5,20 +5,20 @@ use Rattle.std.proofs.lemmas.List.{drop_more}
 use Rattle.std.proofs.lemmas.List.Folds.{list_all_more}
 use Rattle.tune_store.specs.State.{State}
 use Rattle.tune_undo.specs.declared.old_entries.Part.{Part}
-use Rattle.tune_changes.specs.Judging.{all_before, begins_with, first_changed, is_run_of, part_verdict, says_before, says_changed}
+use Rattle.tune_changes.specs.Judging.{all_before, numbers_begin_with, first_changed, is_run_of, part_verdict, says_before, says_changed}
 
 -- RUNS OF NUMBERS
-pub run_next : (run numbers : List ℕ) (i : ℕ) → i < length numbers → begins_with run (drop i numbers) ≡ false
+pub run_next : (run numbers : List ℕ) (i : ℕ) → i < length numbers → numbers_begin_with run (drop i numbers) ≡ false
     → is_run_of run (drop i numbers) ≡ is_run_of run (drop (i + 1) numbers)
 run_next run numbers i l none =
     let e = drop_more numbers i 0 l in
-    ap (is_run_of run) e ∙ ap (λ b. b || is_run_of run (drop (i + 1) numbers)) (ap (begins_with run) (sym e) ∙ none)
+    ap (is_run_of run) e ∙ ap (λ b. b || is_run_of run (drop (i + 1) numbers)) (ap (numbers_begin_with run) (sym e) ∙ none)
 
-pub run_here : (run numbers : List ℕ) (i : ℕ) → i < length numbers → begins_with run (drop i numbers) ≡ true
+pub run_here : (run numbers : List ℕ) (i : ℕ) → i < length numbers → numbers_begin_with run (drop i numbers) ≡ true
     → is_run_of run (drop i numbers) ≡ true
 run_here run numbers i l all =
     let e = drop_more numbers i 0 l in
-    ap (is_run_of run) e ∙ ap (λ b. b || is_run_of run (drop (i + 1) numbers)) (ap (begins_with run) (sym e) ∙ all)
+    ap (is_run_of run) e ∙ ap (λ b. b || is_run_of run (drop (i + 1) numbers)) (ap (numbers_begin_with run) (sym e) ∙ all)
 
 -- PARTS
 changed_at : (parts : List Part) (i : ℕ) (part : Part) (state : State) → i < length parts → part ≡ get_or parts i part

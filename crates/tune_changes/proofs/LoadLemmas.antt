@@ -8,7 +8,7 @@ use Rattle.std.proofs.lemmas.List.{take_more, take_all}
 use Rattle.sha2.specs.Sha256.{sha256}
 use Rattle.tune_sets.specs.declared.set_lists.TuneSet.{TuneSet}
 use Rattle.tune_store.specs.Labels.{labels_of, numbers_of, LabelsRise}
-use Rattle.tune_store.specs.State.{State, RisesFrom, tune_at}
+use Rattle.tune_store.specs.State.{State, NumbersRiseFrom, tune_at}
 use Rattle.tune_store.specs.declared.catalog.Label.{Label}
 use Rattle.tune_store.specs.declared.tune.Tune.{Tune}
 use Rattle.tune_asking.specs.AskingCalls.{tune_told, tune_or}
@@ -47,7 +47,7 @@ pub all_come : (numbers : List ℕ) (i : ℕ) (was now : List Part) (state : Sta
 all_come numbers i was now state le h = subst (λ l. TunesCome l was state now) (take_all i numbers le) h
 
 -- ALL TUNES
-rises_of : (low : ℕ) (tunes : List Tune) → LabelsRise low (labels_of tunes) → RisesFrom low tunes
+rises_of : (low : ℕ) (tunes : List Tune) → LabelsRise low (labels_of tunes) → NumbersRiseFrom low tunes
 rises_of low [] rises = tt
 rises_of low (tune ∷ tunes) rises = (rises.0, rises_of tune.number tunes rises.1)
 
@@ -55,14 +55,14 @@ rises_of low (tune ∷ tunes) rises = (rises.0, rises_of tune.number tunes rises
 abbrev AreOwn : List Tune → List Tune → Type 0
 AreOwn all tunes = AllByRecursion (λ (tune : Tune). tune_at tune.number all ≡ Some tune) tunes
 
-in_later : (first : Tune) (all tunes : List Tune) (low : ℕ) → first.number ≤ low → RisesFrom low tunes → AreOwn all tunes → AreOwn (first ∷ all) tunes
+in_later : (first : Tune) (all tunes : List Tune) (low : ℕ) → first.number ≤ low → NumbersRiseFrom low tunes → AreOwn all tunes → AreOwn (first ∷ all) tunes
 in_later first all [] low le rises own = tt
 in_later first all (tune ∷ tunes) low le rises own =
     let l : low < tune.number = rises.0 in
     let apart : (first.number == tune.number) ≡ false = ne_eqb first.number tune.number (λ e. absurd (omega arith)) in
     (rw apart own.0, in_later first all tunes tune.number (omega arith) rises.1 own.1)
 
-all_own : (low : ℕ) (tunes : List Tune) → RisesFrom low tunes → AreOwn tunes tunes
+all_own : (low : ℕ) (tunes : List Tune) → NumbersRiseFrom low tunes → AreOwn tunes tunes
 all_own low [] rises = tt
 all_own low (tune ∷ tunes) rises =
     let own : (tune.number == tune.number) ≡ true = eq-eqb tune.number tune.number refl in

@@ -19,9 +19,9 @@ use Rattle.tune_store.specs.declared.tune_store.TuneStore.{Ghosts}
 use Rattle.tune_asking.specs.Asking.{IsFault, IsToldOrFault}
 use Rattle.tune_asking.proofs.CallLemmas.{Goes}
 use Rattle.tune_asking.specs.AskingCalls.{Call, tune_or, tune_told}
-use Rattle.tune_changes.specs.Inside.TurnPlans.{IsPlannedOrFault, all_gone, gone_at, numbers_in, turns_told}
-use Rattle.tune_changes.specs.Planning.{first_unknown, moved, numbers_put, put_where, tunes_put, place_moved, places_cut, planned_when, set_gone}
-use Rattle.tune_changes.specs.Planning.{tune_gone, tunes_gone, unknown_after, with_more}
+use Rattle.tune_changes.specs.Inside.TurnPlans.{IsPlannedOrFault, all_gone, gone_at, numbers_of_set, turns_told}
+use Rattle.tune_changes.specs.Planning.{first_unknown, moved_place, numbers_put, put_where, tunes_put, place_moved, places_cut, planned_when, set_gone}
+use Rattle.tune_changes.specs.Planning.{tune_gone, tunes_gone, unknown_after, turn_with_more}
 use Rattle.tune_changes.specs.Planning.{without_places}
 use Rattle.tune_changes.proofs.SetListLemmas.{found_name}
 use Rattle.tune_changes.specs.declared.turns.Turn.{Turn}
@@ -44,7 +44,7 @@ set_further name sets i set l at other =
 
 -- what is found of it
 pub found_at : (asked name : List ℕ) (listed sets : List TuneSet) (set : TuneSet) → asked ≡ name → listed ≡ sets → set_at asked listed ≡ Some set
-    → (numbers_in name sets ≡ Some set.numbers) × (set.name ≡ name)
+    → (numbers_of_set name sets ≡ Some set.numbers) × (set.name ≡ name)
 found_at asked name listed sets set same are found =
     let there : set_at name sets ≡ Some set = ap (λ n. set_at n sets) (sym same) ∙ ap (set_at asked) (sym are) ∙ found in
     (ap (option_map (λ (s : TuneSet). s.numbers)) there, found_name name sets set there)
@@ -74,13 +74,13 @@ cut_never name places there old e none =
 
 -- a place of it moves
 pub moved_set : (name named : List ℕ) (place to : ℕ) (there : Option (List ℕ)) (old list left : List ℕ) → there ≡ Some old → named ≡ name
-    → list_all (λ at. has_place at old) (place ∷ to ∷ []) ≡ true → list ≡ old → left ≡ moved place to old
+    → list_all (λ at. has_place at old) (place ∷ to ∷ []) ≡ true → list ≡ old → left ≡ moved_place place to old
     → place_moved name place to there ≡ Ok (turn.Set named (Some list) (Some left))
 moved_set name named place to there old list left e same all copy rest =
     ap (place_moved name place to) e
-    ∙ ap (λ t. cond t (Ok (turn.Set name (Some old) (Some (moved place to old)))) (Err NoSuchPlace)) all
-    ∙ ap (λ n. Ok (turn.Set n (Some old) (Some (moved place to old)))) (sym same)
-    ∙ ap (λ l. Ok (turn.Set named (Some l) (Some (moved place to old)))) (sym copy)
+    ∙ ap (λ t. cond t (Ok (turn.Set name (Some old) (Some (moved_place place to old)))) (Err NoSuchPlace)) all
+    ∙ ap (λ n. Ok (turn.Set n (Some old) (Some (moved_place place to old)))) (sym same)
+    ∙ ap (λ l. Ok (turn.Set named (Some l) (Some (moved_place place to old)))) (sym copy)
     ∙ ap (λ l. Ok (turn.Set named (Some list) (Some l))) (sym rest)
 
 -- PLACES THAT ARE CUT
@@ -141,7 +141,7 @@ tune_found number (Some other) tune e = cc
 
 -- tunes that are put, each of which is there
 pub put_known : (name numbers : List ℕ) (state : State) → is_good_name name ≡ true → first_unknown numbers state.tunes ≡ None
-    → tunes_put name numbers state ≡ numbers_put name numbers state.sets (numbers_in name state.sets)
+    → tunes_put name numbers state ≡ numbers_put name numbers state.sets (numbers_of_set name state.sets)
 put_known name numbers state good known =
     ap (λ t. cond (not t) (Err BadName) (put_where name numbers state (first_unknown numbers state.tunes))) good
     ∙ ap (put_where name numbers state) known
@@ -187,19 +187,19 @@ before_none (Ok more) = refl
 
 -- one turn more
 pub before_more : (done : List Turn) (turn : Turn) (rest : Result (List Turn) Refusal)
-    → before done (with_more (Ok turn) rest) ≡ before (done ++ turn ∷ []) rest
+    → before done (turn_with_more (Ok turn) rest) ≡ before (done ++ turn ∷ []) rest
 before_more done turn (Err refusal) = refl
 before_more done turn (Ok more) = ap Ok (sym (append_assoc done (turn ∷ []) more))
 
 gone_by : (went : Bool) (number : ℕ) (its : Result Turn Refusal) (rest : Result (List Turn) Refusal)
-    → cond went (Err (Unknown number)) (with_more its rest) ≡ with_more (cond went (Err (Unknown number)) its) rest
+    → cond went (Err (Unknown number)) (turn_with_more its rest) ≡ turn_with_more (cond went (Err (Unknown number)) its) rest
 gone_by true number its rest = refl
 gone_by false number its rest = refl
 
 -- the plan of the numbers from a place on
 pub gone_next : (numbers : List ℕ) (held : List (Option (List ℕ))) (i : ℕ) (state : State) → i < length numbers → length held ≡ length numbers
     → all_gone (take i numbers) (drop i held) (drop i numbers) state
-    ≡ with_more (gone_at numbers held i state) (all_gone (take (i + 1) numbers) (drop (i + 1) held) (drop (i + 1) numbers) state)
+    ≡ turn_with_more (gone_at numbers held i state) (all_gone (take (i + 1) numbers) (drop (i + 1) held) (drop (i + 1) numbers) state)
 gone_next numbers held i state l same =
     let number = get_or numbers i 0 in
     let name = get_or held i None in
@@ -208,7 +208,7 @@ gone_next numbers held i state l same =
     ap (λ (ns : List ℕ). all_gone (take i numbers) (drop i held) ns state) (drop_more numbers i 0 l)
     ∙ ap (λ (hs : List (Option (List ℕ))). all_gone (take i numbers) hs (number ∷ drop (i + 1) numbers) state) (drop_more held i None in_held)
     ∙ gone_by (is_among number (take i numbers)) number (tune_gone number name (tune_at number state.tunes)) rest
-    ∙ ap (λ (front : List ℕ). with_more (gone_at numbers held i state) (all_gone front (drop (i + 1) held) (drop (i + 1) numbers) state))
+    ∙ ap (λ (front : List ℕ). turn_with_more (gone_at numbers held i state) (all_gone front (drop (i + 1) held) (drop (i + 1) numbers) state))
     (sym (take_more numbers i 0 l))
 
 pub gone_end : (numbers : List ℕ) (held : List (Option (List ℕ))) (i : ℕ) (state : State) → length numbers ≤ i
@@ -221,4 +221,4 @@ pub all_held : (gone numbers : List ℕ) (state : State)
 all_held gone [] state = refl
 all_held gone (number ∷ numbers) state =
     ap (λ (rest : Result (List Turn) Refusal). cond (is_among number gone) (Err (Unknown number))
-    (with_more (tune_gone number (holder number state.sets) (tune_at number state.tunes)) rest)) (all_held (gone ++ number ∷ []) numbers state)
+    (turn_with_more (tune_gone number (holder number state.sets) (tune_at number state.tunes)) rest)) (all_held (gone ++ number ∷ []) numbers state)

@@ -11,7 +11,7 @@ use Rattle.tune_sets.specs.Calls.{create_set, add_to, cut_from, drop_found}
 use Rattle.tune_sets.specs.Limits.{most_places, most_sets}
 use Rattle.tune_sets.specs.Names.{is_good_name}
 use Rattle.tune_sets.specs.Numbers.{has_place}
-use Rattle.tune_sets.specs.Sets.{set_at, inserted, empty_set, with_numbers, without}
+use Rattle.tune_sets.specs.Sets.{set_at, set_inserted, empty_set, with_numbers, without_set}
 use Rattle.tune_sets.specs.declared.set_lists.TuneSet.{TuneSet}
 use Rattle.tune_store.specs.SetSteps.{set_add_found, sets_step}
 use Rattle.tune_store.specs.State.{State, tune_at, AreHeld, IsState}
@@ -21,7 +21,7 @@ use Rattle.tune_store.specs.declared.command.Command.TheVariants.{SetNew, SetAdd
 use Rattle.tune_store.specs.declared.command.Reply.TheVariants.{SetMade, SetAdded, SetCut as CutMade, SetDropped}
 use Rattle.tune_changes.specs.SubjectTurns.Subject.{SetOf}
 use Rattle.tune_changes.specs.Bringing.{common_front, cut_behind, relaid, set_commands, brought}
-use Rattle.tune_changes.specs.CommandRuns.{LeadsTo}
+use Rattle.tune_changes.specs.CommandRuns.{LeadsAccepted}
 use Rattle.tune_changes.specs.ChangedStates.{with_content}
 use Rattle.tune_changes.specs.Undoing.{CanBePlaces, CanBeNumbers, CanBe}
 use Rattle.tune_changes.proofs.Leading.{leads_on, leads_none, leads_by, leads_from, leads_to, leads_with}
@@ -33,14 +33,14 @@ listed state sets = record state { sets = sets }
 
 -- a state with these set lists, and one more
 abbrev pub holding : State → List ℕ → List TuneSet → List ℕ → State
-holding state name base numbers = listed state (inserted (named name numbers) base)
+holding state name base numbers = listed state (set_inserted (named name numbers) base)
 
 -- ONE COMMAND
 pub new_gives : (state : State) (name : List ℕ) (base : List TuneSet) → set_at name base ≡ None → is_good_name name ≡ true → length base < most_sets
     → step (listed state base) (SetNew name) ≡ (holding state name base [], Ok (SetMade name))
 new_gives state name base none good room =
     let few : leb most_sets (length base) ≡ false = lt-leb most_sets (length base) room in
-    let made : create_set name base ≡ (inserted (empty_set name) base, Ok tt) = rw (good, none, few) refl in
+    let made : create_set name base ≡ (set_inserted (empty_set name) base, Ok tt) = rw (good, none, few) refl in
     ap (sets_step (λ done. SetMade name) (listed state base)) made
 
 pub add_gives : (state : State) (name : List ℕ) (base : List TuneSet) (numbers : List ℕ) (number : ℕ) → set_at name base ≡ None
@@ -49,7 +49,7 @@ pub add_gives : (state : State) (name : List ℕ) (base : List TuneSet) (numbers
 add_gives state name base numbers number none room held = by (tune_at number state.tunes) refl
   where
     all : List TuneSet
-    all = inserted (named name numbers) base
+    all = set_inserted (named name numbers) base
 
     by : (found : Option Tune) → tune_at number state.tunes ≡ found
         → step (holding state name base numbers) (SetAdd name number)
@@ -57,11 +57,11 @@ add_gives state name base numbers number none room held = by (tune_at number sta
     by None gone = absurd (let e = ap is_some gone in cc)
     by (Some tune) some =
         let few : leb most_places (length numbers) ≡ false = lt-leb most_places (length numbers) room in
-        let added : add_to name number (inserted (named name numbers) base) (Some (named name numbers))
-        ≡ (with_numbers name (numbers ++ number ∷ []) (inserted (named name numbers) base), Ok (length numbers + 1)) = rw few refl in
+        let added : add_to name number (set_inserted (named name numbers) base) (Some (named name numbers))
+        ≡ (with_numbers name (numbers ++ number ∷ []) (set_inserted (named name numbers) base), Ok (length numbers + 1)) = rw few refl in
         ap (set_add_found (holding state name base numbers) name number) some
         ∙ ap (sets_step (λ place. SetAdded name place) (holding state name base numbers))
-        (ap (add_to name number (inserted (named name numbers) base)) (set_found_in name numbers base none) ∙ added
+        (ap (add_to name number (set_inserted (named name numbers) base)) (set_found_in name numbers base none) ∙ added
         ∙ ap (λ (new : List TuneSet). (new, Ok (length numbers + 1))) (renumbered_in name numbers (numbers ++ number ∷ []) base none))
 
 cut_gives : (state : State) (name : List ℕ) (base : List TuneSet) (numbers others : List ℕ) (place : ℕ) → set_at name base ≡ None
@@ -69,24 +69,24 @@ cut_gives : (state : State) (name : List ℕ) (base : List TuneSet) (numbers oth
     → step (holding state name base numbers) (SetCut name place) ≡ (holding state name base others, Ok (CutMade name place))
 cut_gives state name base numbers others place none first within are =
     let has : has_place place numbers ≡ true = rw (lt-ltb 0 place first, le-leb place (length numbers) within) refl in
-    let cut : cut_from name place (inserted (named name numbers) base) (Some (named name numbers))
-    ≡ (with_numbers name (remove numbers (place - 1)) (inserted (named name numbers) base), Ok tt) = rw has refl in
+    let cut : cut_from name place (set_inserted (named name numbers) base) (Some (named name numbers))
+    ≡ (with_numbers name (remove numbers (place - 1)) (set_inserted (named name numbers) base), Ok tt) = rw has refl in
     ap (sets_step (λ done. CutMade name place) (holding state name base numbers))
-    (ap (cut_from name place (inserted (named name numbers) base)) (set_found_in name numbers base none) ∙ cut
-    ∙ ap (λ (some : List ℕ). (with_numbers name some (inserted (named name numbers) base), Ok tt)) are
+    (ap (cut_from name place (set_inserted (named name numbers) base)) (set_found_in name numbers base none) ∙ cut
+    ∙ ap (λ (some : List ℕ). (with_numbers name some (set_inserted (named name numbers) base), Ok tt)) are
     ∙ ap (λ (new : List TuneSet). (new, Ok tt)) (renumbered_in name numbers others base none))
 
 drop_gives : (state : State) (name : List ℕ) (base : List TuneSet) (numbers : List ℕ) → set_at name base ≡ None
     → step (holding state name base numbers) (SetDrop name) ≡ (listed state base, Ok (SetDropped name))
 drop_gives state name base numbers none =
     ap (sets_step (λ done. SetDropped name) (holding state name base numbers))
-    (ap (drop_found name (inserted (named name numbers) base)) (set_found_in name numbers base none)
+    (ap (drop_found name (set_inserted (named name numbers) base)) (set_found_in name numbers base none)
     ∙ ap (λ (new : List TuneSet). (new, Ok tt)) (set_in_and_out name numbers base none))
 
 -- NUMBERS MORE
 adds_lead : (state : State) (name : List ℕ) (base : List TuneSet) (numbers more : List ℕ) → set_at name base ≡ None
     → length numbers + length more ≤ most_places → AreHeld state.tunes more
-    → LeadsTo (holding state name base numbers) (map (SetAdd name) more) (holding state name base (numbers ++ more))
+    → LeadsAccepted (holding state name base numbers) (map (SetAdd name) more) (holding state name base (numbers ++ more))
 adds_lead state name base numbers [] none room held = leads_none _ _ (ap (holding state name base) (sym (append-nil numbers)))
 adds_lead state name base numbers (number ∷ more) none room held =
     let count = length-append numbers (number ∷ []) in
@@ -105,7 +105,7 @@ remove_behind (first ∷ front) rest number (suc place) is = ap (λ (some : List
 
 cuts_lead : (state : State) (name : List ℕ) (base : List TuneSet) (front rest : List ℕ) (place times : ℕ) → set_at name base ≡ None
     → place ≡ length front + 1 → times ≤ length rest
-    → LeadsTo (holding state name base (front ++ rest)) (replicate times (SetCut name place)) (holding state name base (front ++ drop times rest))
+    → LeadsAccepted (holding state name base (front ++ rest)) (replicate times (SetCut name place)) (holding state name base (front ++ drop times rest))
 cuts_lead state name base front rest place zero none is enough = leads_none _ _ refl
 cuts_lead state name base front [] place (suc times) none is enough = absurd (omega arith)
 cuts_lead state name base front (number ∷ rest) place (suc times) none is enough =
@@ -123,7 +123,7 @@ remove_last (number ∷ numbers) (suc n) within = ap (λ (some : List ℕ). numb
 
 pub cut_behind_leads : (state : State) (name : List ℕ) (base : List TuneSet) (numbers : List ℕ) (kept more : ℕ) → set_at name base ≡ None
     → kept + more ≤ length numbers
-    → LeadsTo (holding state name base (take (kept + more) numbers)) (cut_behind name kept more) (holding state name base (take kept numbers))
+    → LeadsAccepted (holding state name base (take (kept + more) numbers)) (cut_behind name kept more) (holding state name base (take kept numbers))
 cut_behind_leads state name base numbers kept zero none within =
     leads_none _ _ (ap (λ n. holding state name base (take n numbers)) (add-zero kept))
 cut_behind_leads state name base numbers kept (suc more) none within =
@@ -177,7 +177,7 @@ held_drop tunes (suc n) (number ∷ numbers) held = held_drop tunes n numbers he
 -- what follows is the same, behind some places less
 shorter_leads : (state : State) (name : List ℕ) (base : List TuneSet) (old new : List ℕ) → set_at name base ≡ None
     → drop (common_front old new + (length old - length new)) old ≡ drop (common_front old new) new
-    → LeadsTo (holding state name base old) (replicate (length old - length new) (SetCut name (common_front old new + 1))) (holding state name base new)
+    → LeadsAccepted (holding state name base old) (replicate (length old - length new) (SetCut name (common_front old new + 1))) (holding state name base new)
 shorter_leads state name base old new none follows =
     let kept = common_front old new in
     let fewer = length old - length new in
@@ -195,7 +195,7 @@ shorter_leads state name base old new none follows =
 
 -- all behind the front is put anew
 anew_leads : (state : State) (name : List ℕ) (base : List TuneSet) (old new : List ℕ) → set_at name base ≡ None → CanBePlaces new state
-    → LeadsTo (holding state name base old)
+    → LeadsAccepted (holding state name base old)
     (cut_behind name (common_front old new) (length old - common_front old new) ++ map (SetAdd name) (drop (common_front old new) new))
     (holding state name base new)
 anew_leads state name base old new none can =
@@ -215,7 +215,7 @@ anew_leads state name base old new none can =
     (adds_lead state name base (take kept old) (drop kept new) none (omega arith) (held_drop state.tunes kept new can.held)))
 
 relaid_leads : (state : State) (name : List ℕ) (base : List TuneSet) (old new : List ℕ) → set_at name base ≡ None → CanBePlaces new state
-    → LeadsTo (holding state name base old) (relaid name old new) (holding state name base new)
+    → LeadsAccepted (holding state name base old) (relaid name old new) (holding state name base new)
 relaid_leads state name base old new none can =
     let kept = common_front old new in
     let fewer = length old - length new in
@@ -245,14 +245,14 @@ numbers_of : Option TuneSet → Option (List ℕ)
 numbers_of found = option_map (λ (set : TuneSet). set.numbers) found
 
 out : (state : State) (name : List ℕ) (found : Option TuneSet) → IsState state → set_at name state.sets ≡ found
-    → LeadsTo state (set_commands name (option_map (λ (set : TuneSet). set.numbers) found) None) (listed state (without name state.sets))
+    → LeadsAccepted state (set_commands name (option_map (λ (set : TuneSet). set.numbers) found) None) (listed state (without_set name state.sets))
 out state name None is e = leads_none _ _ (ap (listed state) (sym (set_out_already name state.sets e)))
 out state name (Some set) is e =
     let its = found_name name state.sets set e in
-    let base = without name state.sets in
+    let base = without_set name state.sets in
     let none = none_without [] name state.sets is.sets.rises in
-    let whole : state.sets ≡ inserted (named name set.numbers) base =
-    sym (set_out_and_in [] name set state.sets is.sets.rises e) ∙ ap (λ (n : List ℕ). inserted (named n set.numbers) base) its in
+    let whole : state.sets ≡ set_inserted (named name set.numbers) base =
+    sym (set_out_and_in [] name set state.sets is.sets.rises e) ∙ ap (λ (n : List ℕ). set_inserted (named n set.numbers) base) its in
     let to = listed state base in
     leads_from state (holding state name base set.numbers) to (SetDrop name ∷ []) (ap (listed state) whole)
     (leads_by (holding state name base set.numbers) to to (SetDrop name) (SetDropped name) [] (drop_gives state name base set.numbers none)
@@ -260,13 +260,13 @@ out state name (Some set) is e =
 
 into : (state : State) (name new : List ℕ) (found : Option TuneSet) → IsState state → set_at name state.sets ≡ found
     → CanBeNumbers name (option_map (λ (set : TuneSet). set.numbers) found) (Some new) state
-    → LeadsTo state (set_commands name (option_map (λ (set : TuneSet). set.numbers) found) (Some new))
-    (listed state (inserted (named name new) (without name state.sets)))
+    → LeadsAccepted state (set_commands name (option_map (λ (set : TuneSet). set.numbers) found) (Some new))
+    (listed state (set_inserted (named name new) (without_set name state.sets)))
 into state name new None is e can =
-    let same : state.sets ≡ without name state.sets = sym (set_out_already name state.sets e) in
-    let base = without name state.sets in
+    let same : state.sets ≡ without_set name state.sets = sym (set_out_already name state.sets e) in
+    let base = without_set name state.sets in
     let none = none_without [] name state.sets is.sets.rises in
-    let room : length (without name state.sets) < most_sets = subst (λ (sets : List TuneSet). length sets < most_sets) same can.0.room in
+    let room : length (without_set name state.sets) < most_sets = subst (λ (sets : List TuneSet). length sets < most_sets) same can.0.room in
     let few = can.1.few in
     let to = holding state name base new in
     leads_from state (listed state base) to (SetNew name ∷ map (SetAdd name) new) (ap (listed state) same)
@@ -275,13 +275,13 @@ into state name new None is e can =
     (adds_lead state name base [] new none (omega arith) can.1.held))
 into state name new (Some set) is e can =
     let its = found_name name state.sets set e in
-    let base = without name state.sets in
+    let base = without_set name state.sets in
     let none = none_without [] name state.sets is.sets.rises in
-    let whole : state.sets ≡ inserted (named name set.numbers) base =
-    sym (set_out_and_in [] name set state.sets is.sets.rises e) ∙ ap (λ (n : List ℕ). inserted (named n set.numbers) base) its in
+    let whole : state.sets ≡ set_inserted (named name set.numbers) base =
+    sym (set_out_and_in [] name set state.sets is.sets.rises e) ∙ ap (λ (n : List ℕ). set_inserted (named n set.numbers) base) its in
     leads_from state (holding state name base set.numbers) _ _ (ap (listed state) whole) (relaid_leads state name base set.numbers new none can)
 
 pub set_brings : (state : State) (name : List ℕ) (to : Option (List ℕ)) → IsState state → CanBe (SetOf name) to state
-    → LeadsTo state (brought (SetOf name) to state) (with_content (SetOf name) to state)
+    → LeadsAccepted state (brought (SetOf name) to state) (with_content (SetOf name) to state)
 set_brings state name None is can = out state name (set_at name state.sets) is refl
 set_brings state name (Some new) is can = into state name new (set_at name state.sets) is refl can

@@ -6,7 +6,7 @@ use Rattle.std.specs.Str.{bytes_eq}
 use Rattle.std.proofs.lemmas.Bool.{cases_Bool}
 use Rattle.std.proofs.lemmas.Slice.Eq.{bytes_eq-Decides}
 use Rattle.tune_sets.specs.Names.{is_before}
-use Rattle.tune_sets.specs.Sets.{RisesFrom, set_at, inserted, with_numbers, without}
+use Rattle.tune_sets.specs.Sets.{NamesRiseFrom, set_at, set_inserted, with_numbers, without_set}
 use Rattle.tune_sets.specs.declared.set_lists.TuneSet.{TuneSet}
 use Rattle.tune_sets.proofs.NameOrder.{same_name, before_other, before_not_after, before_trans}
 use Rattle.tune_sets.proofs.ChangeLemmas.{rises-below}
@@ -25,7 +25,7 @@ found_name name (first ∷ sets) set found = elim (cases_Bool (bytes_eq first.na
   | inr other ↦ let later = rw other at found in found_name name sets set later
 ]
 
-found_behind : (low name : List ℕ) (sets : List TuneSet) (set : TuneSet) → RisesFrom low sets → set_at name sets ≡ Some set → is_before low set.name ≡ true
+found_behind : (low name : List ℕ) (sets : List TuneSet) (set : TuneSet) → NamesRiseFrom low sets → set_at name sets ≡ Some set → is_before low set.name ≡ true
 found_behind low name [] set rises found = cc
 found_behind low name (first ∷ sets) set rises found = elim (cases_Bool (bytes_eq first.name name)) [
   | inl same ↦ let it = rw same at found in let e : first ≡ set = cc in subst (λ (s : TuneSet). is_before low s.name ≡ true) e rises.0
@@ -34,26 +34,26 @@ found_behind low name (first ∷ sets) set rises found = elim (cases_Bool (bytes
       before_trans low first.name set.name rises.0 (found_behind first.name name sets set rises.1 later)
 ]
 
-inserted_first : (set : TuneSet) (sets : List TuneSet) → RisesFrom set.name sets → inserted set sets ≡ set ∷ sets
+inserted_first : (set : TuneSet) (sets : List TuneSet) → NamesRiseFrom set.name sets → set_inserted set sets ≡ set ∷ sets
 inserted_first set [] rises = refl
 inserted_first set (first ∷ sets) rises = rw rises.0 refl
 
-none_below : (name : List ℕ) (sets : List TuneSet) → RisesFrom name sets → set_at name sets ≡ None
+none_below : (name : List ℕ) (sets : List TuneSet) → NamesRiseFrom name sets → set_at name sets ≡ None
 none_below name [] rises = refl
 none_below name (set ∷ sets) rises = rw (before_other name set.name rises.0) (none_below name sets (rises-below name set.name sets rises.0 rises.1))
 
 -- what was taken out is not there
-pub none_without : (low name : List ℕ) (sets : List TuneSet) → RisesFrom low sets → set_at name (without name sets) ≡ None
+pub none_without : (low name : List ℕ) (sets : List TuneSet) → NamesRiseFrom low sets → set_at name (without_set name sets) ≡ None
 none_without low name [] rises = refl
 none_without low name (set ∷ sets) rises = elim (cases_Bool (bytes_eq set.name name)) [
   | inl same ↦
       let e = (bytes_eq-Decides set.name name).0 same in
-      rw same (none_below name sets (subst (λ (n : List ℕ). RisesFrom n sets) e rises.1))
+      rw same (none_below name sets (subst (λ (n : List ℕ). NamesRiseFrom n sets) e rises.1))
   | inr other ↦ rw (other, other) (none_without set.name name sets rises.1)
 ]
 
 -- what was not there
-pub set_out_already : (name : List ℕ) (sets : List TuneSet) → set_at name sets ≡ None → without name sets ≡ sets
+pub set_out_already : (name : List ℕ) (sets : List TuneSet) → set_at name sets ≡ None → without_set name sets ≡ sets
 set_out_already name [] none = refl
 set_out_already name (set ∷ sets) none = elim (cases_Bool (bytes_eq set.name name)) [
   | inl same ↦ let taken = rw same at none in cc
@@ -61,14 +61,14 @@ set_out_already name (set ∷ sets) none = elim (cases_Bool (bytes_eq set.name n
 ]
 
 -- what was taken out and is put in
-pub set_out_and_in : (low name : List ℕ) (set : TuneSet) (sets : List TuneSet) → RisesFrom low sets → set_at name sets ≡ Some set
-    → inserted set (without name sets) ≡ sets
+pub set_out_and_in : (low name : List ℕ) (set : TuneSet) (sets : List TuneSet) → NamesRiseFrom low sets → set_at name sets ≡ Some set
+    → set_inserted set (without_set name sets) ≡ sets
 set_out_and_in low name set [] rises found = cc
 set_out_and_in low name set (first ∷ sets) rises found = elim (cases_Bool (bytes_eq first.name name)) [
   | inl same ↦
       let it = rw same at found in
       let e : first ≡ set = cc in
-      rw same (ap (λ (s : TuneSet). inserted s sets) (sym e) ∙ inserted_first first sets rises.1)
+      rw same (ap (λ (s : TuneSet). set_inserted s sets) (sym e) ∙ inserted_first first sets rises.1)
   | inr other ↦
       let later = rw other at found in
       let behind = before_not_after first.name set.name (found_behind first.name name sets set rises.1 later) in
@@ -77,7 +77,7 @@ set_out_and_in low name set (first ∷ sets) rises found = elim (cases_Bool (byt
 
 -- WHERE A SET LIST WAS PUT IN
 -- what was put in and is taken out
-pub set_in_and_out : (name numbers : List ℕ) (sets : List TuneSet) → set_at name sets ≡ None → without name (inserted (named name numbers) sets) ≡ sets
+pub set_in_and_out : (name numbers : List ℕ) (sets : List TuneSet) → set_at name sets ≡ None → without_set name (set_inserted (named name numbers) sets) ≡ sets
 set_in_and_out name numbers [] none = rw (same_name name name refl) refl
 set_in_and_out name numbers (set ∷ sets) none = elim (cases_Bool (bytes_eq set.name name)) [
   | inl same ↦ let taken = rw same at none in cc
@@ -90,7 +90,7 @@ set_in_and_out name numbers (set ∷ sets) none = elim (cases_Bool (bytes_eq set
 ]
 
 pub set_found_in : (name numbers : List ℕ) (sets : List TuneSet) → set_at name sets ≡ None
-    → set_at name (inserted (named name numbers) sets) ≡ Some (named name numbers)
+    → set_at name (set_inserted (named name numbers) sets) ≡ Some (named name numbers)
 set_found_in name numbers [] none = rw (same_name name name refl) refl
 set_found_in name numbers (set ∷ sets) none = elim (cases_Bool (bytes_eq set.name name)) [
   | inl same ↦ let taken = rw same at none in cc
@@ -104,7 +104,7 @@ set_found_in name numbers (set ∷ sets) none = elim (cases_Bool (bytes_eq set.n
 
 -- its numbers become others
 pub renumbered_in : (name numbers others : List ℕ) (sets : List TuneSet) → set_at name sets ≡ None
-    → with_numbers name others (inserted (named name numbers) sets) ≡ inserted (named name others) sets
+    → with_numbers name others (set_inserted (named name numbers) sets) ≡ set_inserted (named name others) sets
 renumbered_in name numbers others [] none = rw (same_name name name refl) refl
 renumbered_in name numbers others (set ∷ sets) none = elim (cases_Bool (bytes_eq set.name name)) [
   | inl same ↦ let taken = rw same at none in cc
@@ -125,7 +125,7 @@ all_found_set P name (first ∷ sets) set each found = elim (cases_Bool (bytes_e
 ]
 
 -- there is one less, where it was there
-pub length_without_set : (name : List ℕ) (sets : List TuneSet) (set : TuneSet) → set_at name sets ≡ Some set → length (without name sets) + 1 ≡ length sets
+pub length_without_set : (name : List ℕ) (sets : List TuneSet) (set : TuneSet) → set_at name sets ≡ Some set → length (without_set name sets) + 1 ≡ length sets
 length_without_set name [] set found = cc
 length_without_set name (first ∷ sets) set found = elim (cases_Bool (bytes_eq first.name name)) [
   | inl same ↦ rw same (omega arith)

@@ -18,7 +18,7 @@ use Rattle.tune_sets.proofs.PlaceLemmas.{unheld_renumbered}
 use Rattle.tune_store.specs.Limits.{longest_text, most_tunes, greatest_number, greatest_revision}
 use Rattle.tune_store.specs.State.{State, greatest, tune_at, AreHeld, NameTunes, IsState}
 use Rattle.tune_store.specs.Step.{step}
-use Rattle.tune_store.specs.TuneSteps.{import_texts, import_book, tunes_step, inserted, with_tune, without, revised, moved, moved_if}
+use Rattle.tune_store.specs.TuneSteps.{import_texts, import_book, tunes_step, tune_inserted, with_tune, without_tune, revised, moved, moved_if}
 use Rattle.tune_store.specs.TuneSteps.{replace_tune, replace_book, delete_tune, delete_unheld, is_number}
 use Rattle.tune_store.specs.declared.layout.Layout.{Layout}
 use Rattle.tune_store.specs.declared.layout.Layout.TheVariants.{One, Two}
@@ -29,8 +29,8 @@ use Rattle.tune_store.specs.declared.command.Reply.TheVariants.{Imported, Renumb
 use Rattle.tune_store.proofs.LookUpLemmas.{renumber_moves}
 use Rattle.tune_store.proofs.PlaceLemmas.{tune_at-number}
 use Rattle.tune_changes.specs.SubjectTurns.Subject.{TuneOf}
-use Rattle.tune_changes.specs.Bringing.{book_with, renumbered, tune_commands, brought}
-use Rattle.tune_changes.specs.CommandRuns.{LeadsTo}
+use Rattle.tune_changes.specs.Bringing.{book_with, renumber_commands, tune_commands, brought}
+use Rattle.tune_changes.specs.CommandRuns.{LeadsAccepted}
 use Rattle.tune_changes.specs.ChangedStates.{tune_with, with_content}
 use Rattle.tune_changes.specs.Undoing.{CanGoIn, CanBeReplaced, CanBeText, CanBe}
 use Rattle.tune_changes.proofs.Leading.{leads_none, leads_by, leads_to, leads_with}
@@ -105,7 +105,7 @@ import_gives state number text can =
 renumber_gives : (state : State) (number : ℕ) (text : List ℕ) → IsState state → tune_at number state.tunes ≡ None → is_number number ≡ true
     → greatest state.tunes + 1 ≢ number
     → step (tuned state (state.tunes ++ new_tune (greatest state.tunes + 1) text ∷ [])) (Renumber (greatest state.tunes + 1) number)
-    ≡ (tuned state (inserted (new_tune number text) state.tunes), Ok (Renumbered (greatest state.tunes + 1) number))
+    ≡ (tuned state (tune_inserted (new_tune number text) state.tunes), Ok (Renumbered (greatest state.tunes + 1) number))
 renumber_gives state number text is none good apart =
     let parts = number_parts number good in
     let tunes = state.tunes in
@@ -114,9 +114,9 @@ renumber_gives state number text is none good apart =
     let all = tunes ++ had ∷ [] in
     let has : tune_at from all ≡ Some had = found_last tunes had (omega arith) in
     let free : tune_at number all ≡ None = free_still number tunes had none apart in
-    let rest : without from all ≡ tunes = without_last tunes had (omega arith) in
-    let whole : moved from number all ≡ inserted (new_tune number text) tunes =
-    ap (moved_if number all) has ∙ ap (inserted (new_tune number text)) rest in
+    let rest : without_tune from all ≡ tunes = without_last tunes had (omega arith) in
+    let whole : moved from number all ≡ tune_inserted (new_tune number text) tunes =
+    ap (moved_if number all) has ∙ ap (tune_inserted (new_tune number text)) rest in
     let sets : renumbered_sets from number state.sets ≡ state.sets =
     unheld_renumbered from number state.sets (unnamed from tunes state.sets is.named (none_above from tunes (omega arith))) in
     renumber_moves (tuned state all) from number had parts.0 parts.1 has free
@@ -124,21 +124,21 @@ renumber_gives state number text is none good apart =
     ∙ ap (λ (lists : List TuneSet). (
       record {
         layout = state.layout;
-        tunes = inserted (new_tune number text) tunes;
+        tunes = tune_inserted (new_tune number text) tunes;
         sets = lists;
       },
       Ok (Renumbered from number),
     )) sets
 
 goes_in : (state : State) (number : ℕ) (text : List ℕ) → IsState state → tune_at number state.tunes ≡ None → CanGoIn number text state
-    → LeadsTo state (tune_commands (greatest state.tunes) number None (Some text)) (tuned state (inserted (new_tune number text) state.tunes))
+    → LeadsAccepted state (tune_commands (greatest state.tunes) number None (Some text)) (tuned state (tune_inserted (new_tune number text) state.tunes))
 goes_in state number text is none can = elim (cases_Bool (eqb (greatest state.tunes + 1) number)) [
   | inl same ↦
       let e = eqb-true (greatest state.tunes + 1) number same in
-      let own : renumbered (greatest state.tunes + 1) number ≡ [] = rw same refl in
+      let own : renumber_commands (greatest state.tunes + 1) number ≡ [] = rw same refl in
       let mid = tuned state (state.tunes ++ new_tune (greatest state.tunes + 1) text ∷ []) in
-      let to = tuned state (inserted (new_tune number text) state.tunes) in
-      let last : state.tunes ++ new_tune (greatest state.tunes + 1) text ∷ [] ≡ inserted (new_tune number text) state.tunes =
+      let to = tuned state (tune_inserted (new_tune number text) state.tunes) in
+      let last : state.tunes ++ new_tune (greatest state.tunes + 1) text ∷ [] ≡ tune_inserted (new_tune number text) state.tunes =
       ap (λ n. state.tunes ++ new_tune n text ∷ []) e ∙ sym (inserted_last (new_tune number text) state.tunes (omega arith)) in
       leads_with state to (tune_commands (greatest state.tunes) number None (Some text)) (Import (book_with number text) ∷ [])
       (ap (λ (some : List Command). Import (book_with number text) ∷ some) own)
@@ -146,9 +146,9 @@ goes_in state number text is none can = elim (cases_Bool (eqb (greatest state.tu
   | inr other ↦
       let apart = eqb-false (greatest state.tunes + 1) number other in
       let rest = Renumber (greatest state.tunes + 1) number ∷ [] in
-      let another : renumbered (greatest state.tunes + 1) number ≡ Renumber (greatest state.tunes + 1) number ∷ [] = rw other refl in
+      let another : renumber_commands (greatest state.tunes + 1) number ≡ Renumber (greatest state.tunes + 1) number ∷ [] = rw other refl in
       let mid = tuned state (state.tunes ++ new_tune (greatest state.tunes + 1) text ∷ []) in
-      let to = tuned state (inserted (new_tune number text) state.tunes) in
+      let to = tuned state (tune_inserted (new_tune number text) state.tunes) in
       leads_with state to (tune_commands (greatest state.tunes) number None (Some text)) (Import (book_with number text) ∷ rest)
       (ap (λ (some : List Command). Import (book_with number text) ∷ some) another)
       (leads_by state mid to (Import (book_with number text)) _ rest (import_gives state number text can)
@@ -157,9 +157,9 @@ goes_in state number text is none can = elim (cases_Bool (eqb (greatest state.tu
 
 -- A TUNE IS TAKEN OUT
 goes_out : (state : State) (number : ℕ) (tune : Tune) → tune_at number state.tunes ≡ Some tune → holder number state.sets ≡ None
-    → LeadsTo state (Delete number ∷ []) (tuned state (without number state.tunes))
+    → LeadsAccepted state (Delete number ∷ []) (tuned state (without_tune number state.tunes))
 goes_out state number tune found free =
-    leads_by state (tuned state (without number state.tunes)) _ (Delete number) (Deleted number) []
+    leads_by state (tuned state (without_tune number state.tunes)) _ (Delete number) (Deleted number) []
     (ap (λ (some : Option Tune). tunes_step state (delete_tune state.tunes number (holder number state.sets) some)) found
     ∙ ap (λ (held : Option (List ℕ)). tunes_step state (delete_unheld state.tunes number held)) free) (leads_none _ _ refl)
 
@@ -185,14 +185,14 @@ number_within number (first ∷ tunes) tune found = elim (cases_Bool (eqb first.
 
 changes : (state : State) (number : ℕ) (tune : Tune) (text : List ℕ) → IsState state → tune_at number state.tunes ≡ Some tune
     → CanBeText number (Some tune) (Some text) state
-    → LeadsTo state (tune_commands (greatest state.tunes) number (Some tune) (Some text))
-    (tuned state (inserted (tune_with number (Some tune) text) (without number state.tunes)))
+    → LeadsAccepted state (tune_commands (greatest state.tunes) number (Some tune) (Some text))
+    (tuned state (tune_inserted (tune_with number (Some tune) text) (without_tune number state.tunes)))
 changes state number tune text is found can = elim (cases_Bool (bytes_eq tune.text text)) [
   | inl same ↦
       let it : tune_with number (Some tune) text ≡ tune = rw same refl in
       let none : tune_commands (greatest state.tunes) number (Some tune) (Some text) ≡ [] = rw same refl in
-      let whole : inserted (tune_with number (Some tune) text) (without number state.tunes) ≡ state.tunes =
-      ap (λ (t : Tune). inserted t (without number state.tunes)) it ∙ out_and_in 0 number tune state.tunes is.tunes.rises found in
+      let whole : tune_inserted (tune_with number (Some tune) text) (without_tune number state.tunes) ≡ state.tunes =
+      ap (λ (t : Tune). tune_inserted t (without_tune number state.tunes)) it ∙ out_and_in 0 number tune state.tunes is.tunes.rises found in
       leads_with state _ _ [] none (leads_none _ _ (ap (tuned state) (sym whole)))
   | inr other ↦
       let apart : tune.text ≢ text = λ e. let test = (bytes_eq-Decides tune.text text).1 e in cc in
@@ -201,10 +201,10 @@ changes state number tune text is found can = elim (cases_Bool (bytes_eq tune.te
       let it : tune_with number (Some tune) text ≡ revised tune text = rw other refl in
       let one : tune_commands (greatest state.tunes) number (Some tune) (Some text) ≡ Replace number tune.revision (book_with number text) ∷ [] =
       rw other refl in
-      let whole : with_tune (revised tune text) state.tunes ≡ inserted (tune_with number (Some tune) text) (without number state.tunes) =
+      let whole : with_tune (revised tune text) state.tunes ≡ tune_inserted (tune_with number (Some tune) text) (without_tune number state.tunes) =
       with_tune_is 0 (revised tune text) tune state.tunes is.tunes.rises own
-      ∙ ap (λ n. inserted (revised tune text) (without n state.tunes)) its
-      ∙ ap (λ (t : Tune). inserted t (without number state.tunes)) (sym it) in
+      ∙ ap (λ n. tune_inserted (revised tune text) (without_tune n state.tunes)) its
+      ∙ ap (λ (t : Tune). tune_inserted t (without_tune number state.tunes)) (sym it) in
       let top = is.tunes.numbers in
       let within = number_within number state.tunes tune found in
       leads_with state _ _ (Replace number tune.revision (book_with number text) ∷ []) one
@@ -214,22 +214,22 @@ changes state number tune text is found can = elim (cases_Bool (bytes_eq tune.te
 
 -- EACH
 out : (state : State) (number : ℕ) (found : Option Tune) → tune_at number state.tunes ≡ found → CanBeText number found None state
-    → LeadsTo state (tune_commands (greatest state.tunes) number found None) (tuned state (without number state.tunes))
+    → LeadsAccepted state (tune_commands (greatest state.tunes) number found None) (tuned state (without_tune number state.tunes))
 out state number None e can = leads_none _ _ (ap (tuned state) (sym (out_already number state.tunes e)))
 out state number (Some tune) e can = goes_out state number tune e can
 
 into : (state : State) (number : ℕ) (text : List ℕ) (found : Option Tune) → IsState state → tune_at number state.tunes ≡ found
     → CanBeText number found (Some text) state
-    → LeadsTo state (tune_commands (greatest state.tunes) number found (Some text))
-    (tuned state (inserted (tune_with number found text) (without number state.tunes)))
+    → LeadsAccepted state (tune_commands (greatest state.tunes) number found (Some text))
+    (tuned state (tune_inserted (tune_with number found text) (without_tune number state.tunes)))
 into state number text None is e can =
-    leads_to state (tuned state (inserted (new_tune number text) state.tunes))
-    (tuned state (inserted (new_tune number text) (without number state.tunes))) (tune_commands (greatest state.tunes) number None (Some text))
-    (ap (λ (tunes : List Tune). tuned state (inserted (new_tune number text) tunes)) (sym (out_already number state.tunes e)))
+    leads_to state (tuned state (tune_inserted (new_tune number text) state.tunes))
+    (tuned state (tune_inserted (new_tune number text) (without_tune number state.tunes))) (tune_commands (greatest state.tunes) number None (Some text))
+    (ap (λ (tunes : List Tune). tuned state (tune_inserted (new_tune number text) tunes)) (sym (out_already number state.tunes e)))
     (goes_in state number text is e can)
 into state number text (Some tune) is e can = changes state number tune text is e can
 
 pub tune_brings : (state : State) (number : ℕ) (to : Option (List ℕ)) → IsState state → CanBe (TuneOf number) to state
-    → LeadsTo state (brought (TuneOf number) to state) (with_content (TuneOf number) to state)
+    → LeadsAccepted state (brought (TuneOf number) to state) (with_content (TuneOf number) to state)
 tune_brings state number None is can = out state number (tune_at number state.tunes) refl can
 tune_brings state number (Some text) is can = into state number text (tune_at number state.tunes) is refl can

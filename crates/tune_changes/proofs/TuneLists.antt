@@ -3,14 +3,14 @@ use Rattle.std.proofs.Common.{◌≡◌, ◌≢◌, ℕ, ◌<◌, max, eqb, ltb,
 use Rattle.std.proofs.Common.{subst, arith, inl, inr, option_map}
 use Rattle.std.specs.List.{AllByRecursion}
 use Rattle.std.proofs.lemmas.Bool.{cases_Bool, eqb-true, eq-eqb, ne_eqb, lt-ltb, le-ltb}
-use Rattle.tune_store.specs.State.{RisesFrom, greatest, tune_at}
-use Rattle.tune_store.specs.TuneSteps.{with_tune, without, inserted}
+use Rattle.tune_store.specs.State.{NumbersRiseFrom, greatest, tune_at}
+use Rattle.tune_store.specs.TuneSteps.{with_tune, without_tune, tune_inserted}
 use Rattle.tune_store.specs.declared.tune.Tune.{Tune}
 use Rattle.tune_store.proofs.PlaceLemmas.{tune_at-number}
 use Rattle.tune_changes.specs.ChangedStates.{anew, all_anew}
 
 -- IN AND OUT
-pub found_above : (low number : ℕ) (tunes : List Tune) (tune : Tune) → RisesFrom low tunes → tune_at number tunes ≡ Some tune → low < tune.number
+pub found_above : (low number : ℕ) (tunes : List Tune) (tune : Tune) → NumbersRiseFrom low tunes → tune_at number tunes ≡ Some tune → low < tune.number
 found_above low number [] tune rises found = cc
 found_above low number (first ∷ tunes) tune rises found = elim (cases_Bool (eqb first.number number)) [
   | inl same ↦ let it = rw same at found in let e : first ≡ tune = cc in subst (λ (t : Tune). low < t.number) e rises.0
@@ -22,18 +22,19 @@ found_above low number (first ∷ tunes) tune rises found = elim (cases_Bool (eq
 ]
 
 -- a tune that stands before all others
-pub inserted_below : (tune : Tune) (tunes : List Tune) → RisesFrom tune.number tunes → inserted tune tunes ≡ tune ∷ tunes
+pub inserted_below : (tune : Tune) (tunes : List Tune) → NumbersRiseFrom tune.number tunes → tune_inserted tune tunes ≡ tune ∷ tunes
 inserted_below tune [] rises = refl
 inserted_below tune (first ∷ tunes) rises = rw (lt-ltb tune.number first.number rises.0) refl
 
 -- and one behind all others
-pub inserted_last : (tune : Tune) (tunes : List Tune) → greatest tunes < tune.number → inserted tune tunes ≡ tunes ++ tune ∷ []
+pub inserted_last : (tune : Tune) (tunes : List Tune) → greatest tunes < tune.number → tune_inserted tune tunes ≡ tunes ++ tune ∷ []
 inserted_last tune [] above = refl
 inserted_last tune (first ∷ tunes) above =
     rw (le-ltb tune.number first.number (omega arith)) (ap (λ (rest : List Tune). first ∷ rest) (inserted_last tune tunes (omega arith)))
 
 -- what was put in and is taken out
-pub in_and_out : (number : ℕ) (new : Tune) (tunes : List Tune) → new.number ≡ number → tune_at number tunes ≡ None → without number (inserted new tunes) ≡ tunes
+pub in_and_out : (number : ℕ) (new : Tune) (tunes : List Tune) → new.number ≡ number → tune_at number tunes ≡ None
+    → without_tune number (tune_inserted new tunes) ≡ tunes
 in_and_out number new [] own none = rw (eq-eqb new.number number own) refl
 in_and_out number new (tune ∷ tunes) own none = elim (cases_Bool (eqb tune.number number)) [
   | inl same ↦ let taken = rw same at none in cc
@@ -46,14 +47,14 @@ in_and_out number new (tune ∷ tunes) own none = elim (cases_Bool (eqb tune.num
 ]
 
 -- what was taken out and is put in
-pub out_and_in : (low number : ℕ) (tune : Tune) (tunes : List Tune) → RisesFrom low tunes → tune_at number tunes ≡ Some tune
-    → inserted tune (without number tunes) ≡ tunes
+pub out_and_in : (low number : ℕ) (tune : Tune) (tunes : List Tune) → NumbersRiseFrom low tunes → tune_at number tunes ≡ Some tune
+    → tune_inserted tune (without_tune number tunes) ≡ tunes
 out_and_in low number tune [] rises found = cc
 out_and_in low number tune (first ∷ tunes) rises found = elim (cases_Bool (eqb first.number number)) [
   | inl same ↦
       let it = rw same at found in
       let e : first ≡ tune = cc in
-      rw same (ap (λ (t : Tune). inserted t tunes) (sym e) ∙ inserted_below first tunes rises.1)
+      rw same (ap (λ (t : Tune). tune_inserted t tunes) (sym e) ∙ inserted_below first tunes rises.1)
   | inr other ↦
       let later = rw other at found in
       let above = found_above first.number number tunes tune rises.1 later in
@@ -62,7 +63,7 @@ out_and_in low number tune (first ∷ tunes) rises found = elim (cases_Bool (eqb
 ]
 
 -- what was not there
-pub out_already : (number : ℕ) (tunes : List Tune) → tune_at number tunes ≡ None → without number tunes ≡ tunes
+pub out_already : (number : ℕ) (tunes : List Tune) → tune_at number tunes ≡ None → without_tune number tunes ≡ tunes
 out_already number [] none = refl
 out_already number (tune ∷ tunes) none = elim (cases_Bool (eqb tune.number number)) [
   | inl same ↦ let taken = rw same at none in cc
@@ -70,13 +71,13 @@ out_already number (tune ∷ tunes) none = elim (cases_Bool (eqb tune.number num
 ]
 
 -- a tune in the place of that of its number
-pub with_tune_is : (low : ℕ) (new tune : Tune) (tunes : List Tune) → RisesFrom low tunes → tune_at new.number tunes ≡ Some tune
-    → with_tune new tunes ≡ inserted new (without new.number tunes)
+pub with_tune_is : (low : ℕ) (new tune : Tune) (tunes : List Tune) → NumbersRiseFrom low tunes → tune_at new.number tunes ≡ Some tune
+    → with_tune new tunes ≡ tune_inserted new (without_tune new.number tunes)
 with_tune_is low new tune [] rises found = cc
 with_tune_is low new tune (first ∷ tunes) rises found = elim (cases_Bool (eqb first.number new.number)) [
   | inl same ↦
       let e : first.number ≡ new.number = eqb-true first.number new.number same in
-      rw same (sym (inserted_below new tunes (subst (λ n. RisesFrom n tunes) e rises.1)))
+      rw same (sym (inserted_below new tunes (subst (λ n. NumbersRiseFrom n tunes) e rises.1)))
   | inr other ↦
       let later = rw other at found in
       let above = found_above first.number new.number tunes tune rises.1 later in
@@ -87,7 +88,7 @@ with_tune_is low new tune (first ∷ tunes) rises found = elim (cases_Bool (eqb 
 
 -- what is found where a tune was put in
 pub found_in : (number : ℕ) (new : Tune) (tunes : List Tune) → new.number ≡ number → tune_at number tunes ≡ None
-    → tune_at number (inserted new tunes) ≡ Some new
+    → tune_at number (tune_inserted new tunes) ≡ Some new
 found_in number new [] own none = rw (eq-eqb new.number number own) refl
 found_in number new (tune ∷ tunes) own none = elim (cases_Bool (eqb tune.number number)) [
   | inl same ↦ let taken = rw same at none in cc
@@ -109,7 +110,7 @@ found_last [] tune above = rw (eq-eqb tune.number tune.number refl) refl
 found_last (first ∷ tunes) tune above =
     rw (ne_eqb first.number tune.number (λ e. absurd (omega arith))) (found_last tunes tune (omega arith))
 
-pub without_last : (tunes : List Tune) (tune : Tune) → greatest tunes < tune.number → without tune.number (tunes ++ tune ∷ []) ≡ tunes
+pub without_last : (tunes : List Tune) (tune : Tune) → greatest tunes < tune.number → without_tune tune.number (tunes ++ tune ∷ []) ≡ tunes
 without_last [] tune above = rw (eq-eqb tune.number tune.number refl) refl
 without_last (first ∷ tunes) tune above =
     rw (ne_eqb first.number tune.number (λ e. absurd (omega arith))) (ap (λ (rest : List Tune). first ∷ rest) (without_last tunes tune (omega arith)))
@@ -123,14 +124,14 @@ free_still number (first ∷ tunes) tune none apart = elim (cases_Bool (eqb firs
 ]
 
 -- WHAT HOLDS OF EACH
-pub all_without : (P : Tune → Type 0) (number : ℕ) (tunes : List Tune) → AllByRecursion P tunes → AllByRecursion P (without number tunes)
+pub all_without : (P : Tune → Type 0) (number : ℕ) (tunes : List Tune) → AllByRecursion P tunes → AllByRecursion P (without_tune number tunes)
 all_without P number [] each = tt
 all_without P number (tune ∷ tunes) each = elim (cases_Bool (eqb tune.number number)) [
   | inl same ↦ rw same each.1
   | inr other ↦ rw other (each.0, all_without P number tunes each.1)
 ]
 
-pub all_inserted : (P : Tune → Type 0) (new : Tune) (tunes : List Tune) → P new → AllByRecursion P tunes → AllByRecursion P (inserted new tunes)
+pub all_inserted : (P : Tune → Type 0) (new : Tune) (tunes : List Tune) → P new → AllByRecursion P tunes → AllByRecursion P (tune_inserted new tunes)
 all_inserted P new [] its each = (its, tt)
 all_inserted P new (tune ∷ tunes) its each = elim (cases_Bool (ltb new.number tune.number)) [
   | inl before ↦ rw before (its, each)
@@ -145,14 +146,14 @@ all_found P number (first ∷ tunes) tune each found = elim (cases_Bool (eqb fir
 ]
 
 -- REVISIONS LEFT OUT
-pub without_anew : (number : ℕ) (tunes : List Tune) → all_anew (without number tunes) ≡ without number (all_anew tunes)
+pub without_anew : (number : ℕ) (tunes : List Tune) → all_anew (without_tune number tunes) ≡ without_tune number (all_anew tunes)
 without_anew number [] = refl
 without_anew number (tune ∷ tunes) = elim (cases_Bool (eqb tune.number number)) [
   | inl same ↦ rw same refl
   | inr other ↦ rw other (ap (λ (rest : List Tune). anew tune ∷ rest) (without_anew number tunes))
 ]
 
-pub inserted_anew : (new : Tune) (tunes : List Tune) → all_anew (inserted new tunes) ≡ inserted (anew new) (all_anew tunes)
+pub inserted_anew : (new : Tune) (tunes : List Tune) → all_anew (tune_inserted new tunes) ≡ tune_inserted (anew new) (all_anew tunes)
 inserted_anew new [] = refl
 inserted_anew new (tune ∷ tunes) = elim (cases_Bool (ltb new.number tune.number)) [
   | inl before ↦ rw before refl
@@ -166,7 +167,7 @@ found_anew number (tune ∷ tunes) = elim (cases_Bool (eqb tune.number number)) 
   | inr other ↦ rw other (found_anew number tunes)
 ]
 
-pub rises_anew : (low : ℕ) (tunes : List Tune) → RisesFrom low tunes → RisesFrom low (all_anew tunes)
+pub rises_anew : (low : ℕ) (tunes : List Tune) → NumbersRiseFrom low tunes → NumbersRiseFrom low (all_anew tunes)
 rises_anew low [] rises = tt
 rises_anew low (tune ∷ tunes) rises = (rises.0, rises_anew tune.number tunes rises.1)
 

@@ -8,11 +8,11 @@ use Rattle.std.proofs.lemmas.Bool.{cases_Bool, lt-ltb, le-leb}
 use Rattle.std.proofs.lemmas.List.{length-map, map-append, reverse-append}
 use Rattle.std.proofs.lemmas.Slice.Eq.{bytes_eq-Decides}
 use Rattle.tune_sets.specs.Names.{is_good_name}
-use Rattle.tune_sets.specs.Sets.{set_at, holder, IsTuneSet, without as without_set}
+use Rattle.tune_sets.specs.Sets.{set_at, holder, IsTuneSet, without_set as without_set}
 use Rattle.tune_sets.specs.declared.set_lists.TuneSet.{TuneSet}
 use Rattle.tune_store.specs.Limits.{longest_text, most_tunes, greatest_number, greatest_revision}
 use Rattle.tune_store.specs.State.{State, tune_at, greatest, AreHeld, IsTune, IsState}
-use Rattle.tune_store.specs.TuneSteps.{inserted, without, is_number}
+use Rattle.tune_store.specs.TuneSteps.{tune_inserted, without_tune, is_number}
 use Rattle.tune_store.specs.declared.tune.Tune.{Tune}
 use Rattle.tune_store.specs.Step.{step}
 use Rattle.tune_store.specs.declared.command.Command.{Command}
@@ -23,7 +23,7 @@ use Rattle.tune_store.proofs.StateLemmas.{greatest-without}
 use Rattle.tune_changes.specs.SubjectTurns.{Subject, Turn, Aim, aim_back, content, numbers_at}
 use Rattle.tune_changes.specs.SubjectTurns.Subject.{TuneOf, SetOf}
 use Rattle.tune_changes.specs.Bringing.{tune_commands, set_commands, brought, brought_each}
-use Rattle.tune_changes.specs.CommandRuns.{after_commands, AreAccepted, LeadsTo}
+use Rattle.tune_changes.specs.CommandRuns.{after_commands, AreAccepted, LeadsAccepted}
 use Rattle.tune_changes.specs.ChangedStates.{anew, all_anew, face, tune_with, put_numbers, with_content, with_each}
 use Rattle.tune_changes.specs.Undoing.{CanGoIn, CanBeReplaced, CanBeText, CanBePlaces, CanBeMade, CanBeNumbers, CanBe}
 use Rattle.tune_changes.specs.Undoing.{IsGiven, CanComeBack, IsBroughtAbout, BringsAbout}
@@ -38,7 +38,7 @@ use Rattle.tune_changes.proofs.Faces.{plain, plain_text, content_face, face_with
 
 -- A SUBJECT IS BROUGHT
 pub brings : (state : State) (subject : Subject) (to : Option (List ℕ)) → IsState state → CanBe subject to state
-    → LeadsTo state (brought subject to state) (with_content subject to state)
+    → LeadsAccepted state (brought subject to state) (with_content subject to state)
 brings state (TuneOf number) to is can = tune_brings state number to is can
 brings state (SetOf name) to is can = set_brings state name to is can
 
@@ -81,7 +81,7 @@ held_like some more (number ∷ numbers) same held =
 
 -- WHAT WAS CAN BE AGAIN
 -- how many tunes are there, and the greatest number, where a tune was taken out
-out_count : (x old : State) (number : ℕ) (tune : Tune) → all_anew x.tunes ≡ without number (all_anew old.tunes) → tune_at number old.tunes ≡ Some tune
+out_count : (x old : State) (number : ℕ) (tune : Tune) → all_anew x.tunes ≡ without_tune number (all_anew old.tunes) → tune_at number old.tunes ≡ Some tune
     → length x.tunes + 1 ≡ length old.tunes
 out_count x old number tune same found =
     let fewer = length-without_one number (all_anew old.tunes) (anew tune) (found_anew number old.tunes ∙ ap (option_map anew) found) in
@@ -90,7 +90,7 @@ out_count x old number tune same found =
     let c = ap length same in
     omega arith
 
-out_greatest : (x old : State) (number : ℕ) → all_anew x.tunes ≡ without number (all_anew old.tunes) → greatest x.tunes ≤ greatest old.tunes
+out_greatest : (x old : State) (number : ℕ) → all_anew x.tunes ≡ without_tune number (all_anew old.tunes) → greatest x.tunes ≤ greatest old.tunes
 out_greatest x old number same =
     let less = greatest-without number (all_anew old.tunes) in
     let a = greatest_anew x.tunes in
@@ -115,7 +115,7 @@ tune_out x old number (Some tune) is same none =
 
 -- a tune that was there can go in
 tune_in : (x old : State) (number : ℕ) (tune : Tune) → IsState old → tune_at number old.tunes ≡ Some tune → x.layout ≡ old.layout
-    → all_anew x.tunes ≡ without number (all_anew old.tunes) → greatest old.tunes < greatest_number → CanGoIn number tune.text x
+    → all_anew x.tunes ≡ without_tune number (all_anew old.tunes) → greatest old.tunes < greatest_number → CanGoIn number tune.text x
 tune_in x old number tune is found laid same back =
     let its = all_found (IsTune old.layout) number old.tunes tune is.tunes.each found in
     let count = out_count x old number tune same found in
@@ -225,8 +225,8 @@ put_leaves x number times (Some text) None None has are leaves =
       new = less.new;
       each = subst
           (λ (found : Option Tune). AllByRecursion (λ (t : Tune). t.revision + times ≤ greatest_revision)
-          (inserted (tune_with number found text) (without number x.tunes))) (sym has)
-          (all_inserted (λ (t : Tune). t.revision + times ≤ greatest_revision) (tune_with number None text) (without number x.tunes) (omega arith)
+          (tune_inserted (tune_with number found text) (without_tune number x.tunes))) (sym has)
+          (all_inserted (λ (t : Tune). t.revision + times ≤ greatest_revision) (tune_with number None text) (without_tune number x.tunes) (omega arith)
           (all_without (λ (t : Tune). t.revision + times ≤ greatest_revision) number x.tunes less.each));
     }
 put_leaves x number times (Some text) (Some other) (Some now) has are leaves =
@@ -236,8 +236,8 @@ put_leaves x number times (Some text) (Some other) (Some now) has are leaves =
       new = less.new;
       each = subst
           (λ (found : Option Tune). AllByRecursion (λ (t : Tune). t.revision + times ≤ greatest_revision)
-          (inserted (tune_with number found text) (without number x.tunes))) (sym has)
-          (all_inserted (λ (t : Tune). t.revision + times ≤ greatest_revision) (tune_with number (Some now) text) (without number x.tunes)
+          (tune_inserted (tune_with number found text) (without_tune number x.tunes))) (sym has)
+          (all_inserted (λ (t : Tune). t.revision + times ≤ greatest_revision) (tune_with number (Some now) text) (without_tune number x.tunes)
           (with_revision times number now text more)
           (all_without (λ (t : Tune). t.revision + times ≤ greatest_revision) number x.tunes less.each));
     }
@@ -275,7 +275,7 @@ about_keeps (turn ∷ turns) old new is about =
     let commands = brought turn.subject turn.is old in
     about_keeps turns (after_commands commands old) new (after_keeps commands old is) about.1
 
-pub about_leads : (turns : List Turn) (old new : State) → IsState old → BringsAbout turns old new → LeadsTo old (brought_about turns old) new
+pub about_leads : (turns : List Turn) (old new : State) → IsState old → BringsAbout turns old new → LeadsAccepted old (brought_about turns old) new
 about_leads [] old new is same = leads_none old new same
 about_leads (turn ∷ turns) old new is about =
     let commands = brought turn.subject turn.is old in
@@ -306,7 +306,7 @@ back_more turn turns state =
 -- where the turns taken back lead, and what is left of revisions there
 record Undone (times : ℕ) (turns : List Turn) (now old : State) : Type 0 where
   back : State
-  leads : LeadsTo now (taken_back turns now) back
+  leads : LeadsAccepted now (taken_back turns now) back
   alike : face back ≡ face old
   leaves : LeavesRevisions times back
 
@@ -339,12 +339,12 @@ undone times (turn ∷ turns) old new now is about within alike leaves =
     subst (λ (some : Option (List ℕ)). CanBe turn.subject some x) was
     (can_back x old turn.subject times turn.is is faced are about.0.back leaves_then) in
     let y = with_content turn.subject turn.was x in
-    let last : LeadsTo x (brought turn.subject turn.was x) y = brings x turn.subject turn.was is_x can in
+    let last : LeadsAccepted x (brought turn.subject turn.was x) y = brings x turn.subject turn.was is_x can in
     record {
       back = y;
       leads = leads_with now y _ _ (back_more turn turns now)
           (leads_on now x y (taken_back turns now) (brought turn.subject turn.was (after_commands (taken_back turns now) now)) later.leads
-          (subst (λ (s : State). LeadsTo x (brought turn.subject turn.was s) y) (sym reached) last));
+          (subst (λ (s : State). LeadsAccepted x (brought turn.subject turn.was s) y) (sym reached) last));
       alike = face_with turn.subject turn.was x ∙ ap (plain turn.subject turn.was) faced
           ∙ ap (λ (some : Option (List ℕ)). plain turn.subject some (plain turn.subject turn.is (face old))) (sym was)
           ∙ plain_back turn.subject turn.is old is;

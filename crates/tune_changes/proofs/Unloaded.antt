@@ -6,17 +6,17 @@ use Rattle.std.specs.Str.{bytes_eq}
 use Rattle.std.proofs.lemmas.Bool.{eq-eqb, ne_eqb}
 use Rattle.std.proofs.lemmas.List.{reverse-append}
 use Rattle.tune_sets.specs.Names.{is_before}
-use Rattle.tune_sets.specs.Sets.{RisesFrom as SetsRise, holder, without as without_set}
+use Rattle.tune_sets.specs.Sets.{NamesRiseFrom as SetsRise, holder, without_set as without_set}
 use Rattle.tune_sets.specs.declared.set_lists.TuneSet.{TuneSet}
 use Rattle.tune_sets.proofs.NameOrder.{same_name, before_differs}
 use Rattle.tune_sets.proofs.ChangeLemmas.{rises-below}
-use Rattle.tune_store.specs.State.{State, IsState, RisesFrom, tune_at, empty_of}
-use Rattle.tune_store.specs.TuneSteps.{without}
+use Rattle.tune_store.specs.State.{State, IsState, NumbersRiseFrom, tune_at, empty_of}
+use Rattle.tune_store.specs.TuneSteps.{without_tune}
 use Rattle.tune_store.specs.declared.tune.Tune.{Tune}
 use Rattle.tune_store.specs.declared.command.Command.{Command}
 use Rattle.tune_changes.specs.Bringing.{brought, brought_each}
 use Rattle.tune_changes.specs.ChangedStates.{AreAlike, face, all_anew}
-use Rattle.tune_changes.specs.CommandRuns.{after_commands, LeadsTo}
+use Rattle.tune_changes.specs.CommandRuns.{after_commands, LeadsAccepted}
 use Rattle.tune_changes.specs.BroughtParts.{loaded_parts, tune_comes, set_comes}
 use Rattle.tune_changes.specs.SubjectTurns.{Aim}
 use Rattle.tune_changes.specs.SubjectTurns.Subject.{TuneOf, SetOf}
@@ -58,7 +58,7 @@ sets_left [] sets = sets
 sets_left (name ∷ names) sets = sets_left names (without_set name sets)
 
 sets_go : (names : List (List ℕ)) (state : State) → IsState state
-    → LeadsTo state (brought_each (map set_out names) state) (record state { sets = sets_left names state.sets })
+    → LeadsAccepted state (brought_each (map set_out names) state) (record state { sets = sets_left names state.sets })
 sets_go [] state is = leads_none state (record state { sets = state.sets }) refl
 sets_go (name ∷ names) state is =
     let commands = brought (SetOf name) None state in
@@ -102,7 +102,7 @@ no_set_left low (set ∷ sets) rises =
 -- TUNES
 abbrev tunes_left : List ℕ → List Tune → List Tune
 tunes_left [] tunes = tunes
-tunes_left (number ∷ numbers) tunes = tunes_left numbers (without number tunes)
+tunes_left (number ∷ numbers) tunes = tunes_left numbers (without_tune number tunes)
 
 -- a tune can go where there is no set list
 can_go : (number : ℕ) (found : Option Tune) (state : State) → state.sets ≡ [] → CanBeText number found None state
@@ -110,47 +110,47 @@ can_go number None state none = tt
 can_go number (Some tune) state none = ap (λ (sets : List TuneSet). holder number sets) none
 
 tunes_go : (numbers : List ℕ) (state : State) → IsState state → state.sets ≡ []
-    → LeadsTo state (brought_each (map tune_out numbers) state) (record state { tunes = tunes_left numbers state.tunes })
+    → LeadsAccepted state (brought_each (map tune_out numbers) state) (record state { tunes = tunes_left numbers state.tunes })
 tunes_go [] state is none = leads_none state (record state { tunes = state.tunes }) refl
 tunes_go (number ∷ numbers) state is none =
     let commands = brought (TuneOf number) None state in
     let next = after_commands commands state in
     let first = brings state (TuneOf number) None is (can_go number (tune_at number state.tunes) state none) in
-    leads_on state next (record state { tunes = tunes_left numbers (without number state.tunes) }) commands (brought_each (map tune_out numbers) next)
+    leads_on state next (record state { tunes = tunes_left numbers (without_tune number state.tunes) }) commands (brought_each (map tune_out numbers) next)
     (leads_after state _ commands first)
     (leads_to next (record next { tunes = tunes_left numbers next.tunes }) _ _ (ap (λ (s : State). record s { tunes = tunes_left numbers s.tunes }) first.1)
     (tunes_go numbers next (after_keeps commands state is) (ap (λ (s : State). s.sets) first.1 ∙ none)))
 
 tunes_left-append : (some more : List ℕ) (tunes : List Tune) → tunes_left (some ++ more) tunes ≡ tunes_left more (tunes_left some tunes)
 tunes_left-append [] more tunes = refl
-tunes_left-append (number ∷ some) more tunes = tunes_left-append some more (without number tunes)
+tunes_left-append (number ∷ some) more tunes = tunes_left-append some more (without_tune number tunes)
 
 first_tune_stays : (tune : Tune) (numbers : List ℕ) (tunes : List Tune) → AllByRecursion (λ number. tune.number < number) numbers
     → tunes_left numbers (tune ∷ tunes) ≡ tune ∷ tunes_left numbers tunes
 first_tune_stays tune [] tunes h = refl
 first_tune_stays tune (number ∷ numbers) tunes h =
     let l : tune.number < number = h.0 in
-    rw (ne_eqb tune.number number (λ e. absurd (omega arith))) (first_tune_stays tune numbers (without number tunes) h.1)
+    rw (ne_eqb tune.number number (λ e. absurd (omega arith))) (first_tune_stays tune numbers (without_tune number tunes) h.1)
 
-numbers_above : (low mid : ℕ) (tunes : List Tune) → low < mid → RisesFrom mid tunes
+numbers_above : (low mid : ℕ) (tunes : List Tune) → low < mid → NumbersRiseFrom mid tunes
     → AllByRecursion (λ number. low < number) (map (λ (tune : Tune). tune.number) tunes)
 numbers_above low mid [] lt rises = tt
 numbers_above low mid (tune ∷ tunes) lt rises =
     let l : mid < tune.number = rises.0 in
     (omega arith, numbers_above low tune.number tunes (omega arith) rises.1)
 
-all_above : (low : ℕ) (tunes : List Tune) → RisesFrom low tunes → AllByRecursion (λ number. low < number) (map (λ (tune : Tune). tune.number) tunes)
+all_above : (low : ℕ) (tunes : List Tune) → NumbersRiseFrom low tunes → AllByRecursion (λ number. low < number) (map (λ (tune : Tune). tune.number) tunes)
 all_above low [] rises = tt
 all_above low (tune ∷ tunes) rises = (rises.0, numbers_above low tune.number tunes rises.0 rises.1)
 
-no_tune_left : (low : ℕ) (tunes : List Tune) → RisesFrom low tunes → tunes_left (reverse (map (λ (tune : Tune). tune.number) tunes)) tunes ≡ []
+no_tune_left : (low : ℕ) (tunes : List Tune) → NumbersRiseFrom low tunes → tunes_left (reverse (map (λ (tune : Tune). tune.number) tunes)) tunes ≡ []
 no_tune_left low [] rises = refl
 no_tune_left low (tune ∷ tunes) rises =
     let numbers = map (λ (other : Tune). other.number) tunes in
-    let own : without tune.number (tune ∷ []) ≡ [] = rw (eq-eqb tune.number tune.number refl) refl in
+    let own : without_tune tune.number (tune ∷ []) ≡ [] = rw (eq-eqb tune.number tune.number refl) refl in
     ap (λ (l : List ℕ). tunes_left l (tune ∷ tunes)) (reverse-append (tune.number ∷ []) numbers)
     ∙ tunes_left-append (reverse numbers) (tune.number ∷ []) (tune ∷ tunes)
-    ∙ ap (λ (left : List Tune). without tune.number left) (first_tune_stays tune (reverse numbers) tunes (all_turned _ numbers
+    ∙ ap (λ (left : List Tune). without_tune tune.number left) (first_tune_stays tune (reverse numbers) tunes (all_turned _ numbers
     (all_above tune.number tunes rises.1)) ∙ ap (λ (left : List Tune). tune ∷ left) (no_tune_left tune.number tunes rises.1))
     ∙ own
 
@@ -160,7 +160,7 @@ abbrev pub all_out : State → List Aim
 all_out state = map set_out (reverse (map (λ (set : TuneSet). set.name) state.sets))
     ++ map tune_out (reverse (map (λ (tune : Tune). tune.number) state.tunes))
 
-pub unloaded : (state : State) → IsState state → LeadsTo state (brought_each (all_out state) state) (empty_of state.layout)
+pub unloaded : (state : State) → IsState state → LeadsAccepted state (brought_each (all_out state) state) (empty_of state.layout)
 unloaded state is =
     let names = reverse (map (λ (set : TuneSet). set.name) state.sets) in
     let numbers = reverse (map (λ (tune : Tune). tune.number) state.tunes) in

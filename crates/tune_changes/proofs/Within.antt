@@ -8,7 +8,7 @@ use Rattle.tune_sets.specs.Calls.{create_unless, create_set, add_to, cut_from, d
 use Rattle.tune_sets.specs.Limits.{most_places, most_sets}
 use Rattle.tune_sets.specs.Names.{is_good_name}
 use Rattle.tune_sets.specs.Numbers.{has_place}
-use Rattle.tune_sets.specs.Sets.{AreSetLists, set_at, with_numbers, without}
+use Rattle.tune_sets.specs.Sets.{AreSetLists, set_at, with_numbers, without_set}
 use Rattle.tune_sets.specs.declared.set_lists.TuneSet.{TuneSet}
 use Rattle.tune_store.specs.SetSteps.{set_add_found}
 use Rattle.tune_store.specs.State.{State, tune_at, IsState}
@@ -20,7 +20,7 @@ use Rattle.tune_store.proofs.LimitLemmas.{step_keeps_limits}
 use Rattle.tune_changes.specs.SubjectTurns.{Subject, Turn, content, numbers_at}
 use Rattle.tune_changes.specs.SubjectTurns.Subject.{SetOf}
 use Rattle.tune_changes.specs.Bringing.{common_front, cut_behind, relaid, set_commands, brought}
-use Rattle.tune_changes.specs.CommandRuns.{after_commands, LeadsTo}
+use Rattle.tune_changes.specs.CommandRuns.{after_commands, LeadsAccepted}
 use Rattle.tune_changes.specs.ChangedStates.{put_numbers, all_anew, with_content, AreAlike, AreAlikeBut}
 use Rattle.tune_changes.specs.Undoing.{CanBeNumbers, taken_back, TakesBack, CanGoBack, StandsAfter, StandsWithin}
 use Rattle.tune_changes.proofs.Leading.{leads_on, leads_with, after_append, after_keeps}
@@ -41,10 +41,10 @@ OnSet name command = ⊥
 record SameBut (name : List ℕ) (old new : State) : Type 0 where
   laid : new.layout ≡ old.layout
   tunes : new.tunes ≡ old.tunes
-  others : without name new.sets ≡ without name old.sets
+  others : without_set name new.sets ≡ without_set name old.sets
 
 abbrev Keeps : List ℕ → List TuneSet → List TuneSet → Type 0
-Keeps name old new = without name new ≡ without name old
+Keeps name old new = without_set name new ≡ without_set name old
 
 numbers_keep : (name numbers : List ℕ) (sets : List TuneSet) → Keeps name sets (with_numbers name numbers sets)
 numbers_keep name numbers [] = refl
@@ -82,7 +82,7 @@ cut_keeps name place sets (Some set) = elim (cases_Bool (has_place place set.num
 
 drop_keeps : (name : List ℕ) (sets : List TuneSet) (found : Option TuneSet) → AreSetLists sets → Keeps name sets (drop_found name sets found).0
 drop_keeps name sets None are = refl
-drop_keeps name sets (Some set) are = set_out_already name (without name sets) (none_without [] name sets are.rises)
+drop_keeps name sets (Some set) are = set_out_already name (without_set name sets) (none_without [] name sets are.rises)
 
 add_same : (name : List ℕ) (number : ℕ) (state : State) (found : Option Tune) → SameBut name state (set_add_found state name number found).0
 add_same name number state None = record { laid = refl; tunes = refl; others = refl }
@@ -164,13 +164,13 @@ set_stopped state name to count is =
     let commands = take count (brought (SetOf name) to state) in
     let now = after_commands commands state in
     let same = after_same name commands state is (all_taken (OnSet name) count _ (set_on name (numbers_at name state) to)) in
-    ap (λ layout. record { layout = layout; tunes = all_anew now.tunes; sets = without name now.sets }) same.laid
-    ∙ ap (λ (ts : List Tune). record { layout = state.layout; tunes = all_anew ts; sets = without name now.sets }) same.tunes
+    ap (λ layout. record { layout = layout; tunes = all_anew now.tunes; sets = without_set name now.sets }) same.laid
+    ∙ ap (λ (ts : List Tune). record { layout = state.layout; tunes = all_anew ts; sets = without_set name now.sets }) same.tunes
     ∙ ap (λ (ss : List TuneSet). record { layout = state.layout; tunes = all_anew state.tunes; sets = ss }) same.others
 
 -- A SET LIST RETURNS
 -- what is the same of two states but for a set list
-others_of : (name : List ℕ) (x y : State) → AreAlikeBut (SetOf name) x y → without name x.sets ≡ without name y.sets
+others_of : (name : List ℕ) (x y : State) → AreAlikeBut (SetOf name) x y → without_set name x.sets ≡ without_set name y.sets
 others_of name x y same = ap (λ (s : State). s.sets) same
 
 faces_of : (name : List ℕ) (x y : State) → AreAlikeBut (SetOf name) x y → all_anew x.tunes ≡ all_anew y.tunes
@@ -191,7 +191,7 @@ can_return name new now (Some set) None is same e h = (
 )
 
 set_returns : (name : List ℕ) (new now : State) → IsState new → IsState now → AreAlikeBut (SetOf name) now new
-    → LeadsTo now (brought (SetOf name) (numbers_at name new) now) (with_content (SetOf name) (numbers_at name new) now)
+    → LeadsAccepted now (brought (SetOf name) (numbers_at name new) now) (with_content (SetOf name) (numbers_at name new) now)
 set_returns name new now is within same =
     set_brings now name (numbers_at name new) within (can_return name new now (set_at name new.sets) (set_at name now.sets) is same refl refl)
 
@@ -230,7 +230,7 @@ takes_within old now turns others turn is can stands =
     back_more turn others now
     ∙ ap (λ (later : List Command). later ++ brought turn.subject turn.was (after_commands later now)) (none_taken now others stands.rest)
     ∙ ap (λ (s : Subject). brought s turn.was now) stands.on ∙ ap (λ (some : Option (List ℕ)). brought (SetOf name) some now) (sym was) in
-    let first : LeadsTo now (taken_back (turn ∷ others) now) mid = leads_with now mid _ _ one (set_returns name new now is_new can.within same) in
+    let first : LeadsAccepted now (taken_back (turn ∷ others) now) mid = leads_with now mid _ _ one (set_returns name new now is_new can.within same) in
     let is_mid : IsState mid = subst IsState first.1 (after_keeps (taken_back (turn ∷ others) now) now can.within) in
     let can_mid : CanGoBack turns mid = record { within = is_mid; leaves = record { new = can.leaves.new; each = can.leaves.each } } in
     let after_mid : StandsAfter turns old mid = record { new = new; about = stands.about; alike = set_returned name new now is_new same } in

@@ -19,15 +19,15 @@ abbrev pub book_with : ℕ → List ℕ → List ℕ
 book_with number text = written_book (number ∷ []) (text ∷ [])
 
 -- a tune that has one number gets another one, where that is another
-abbrev pub renumbered : ℕ → ℕ → List Command
-renumbered number to = if number == to then [] else Renumber number to ∷ []
+abbrev pub renumber_commands : ℕ → ℕ → List Command
+renumber_commands number to = if number == to then [] else Renumber number to ∷ []
 
 -- From the tune of a number, or none, to a text, or none; `last` is the greatest number of a tune,
 -- or 0. A tune that goes in is given the number after it first.
 abbrev pub tune_commands : ℕ → ℕ → Option Tune → Option (List ℕ) → List Command
 tune_commands last number None None = []
 tune_commands last number None (Some text) =
-    Import (book_with number text) ∷ renumbered (last + 1) number
+    Import (book_with number text) ∷ renumber_commands (last + 1) number
 tune_commands last number (Some tune) None = Delete number ∷ []
 tune_commands last number (Some tune) (Some text) =
     if bytes_eq tune.text text then []

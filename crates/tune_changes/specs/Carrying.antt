@@ -10,9 +10,9 @@ use Rattle.tune_store.specs.declared.command.Command.{Command}
 use Rattle.tune_store.specs.declared.command.Refusal.{Refusal}
 use Rattle.tune_store.specs.declared.command.Refusal.TheVariants.{Device}
 use Rattle.tune_store.specs.declared.tune_store.TuneStore.{Ghosts}
-use Rattle.tune_scripts.specs.Carried.{Carried, CarriesOut, run_of}
+use Rattle.tune_scripts.specs.Carried.{Carried, CarriesAllOut, run_of}
 use Rattle.tune_asking.specs.Asking.{IsFault}
-use Rattle.tune_changes.specs.CommandRuns.{LeadsTo}
+use Rattle.tune_changes.specs.CommandRuns.{LeadsAccepted}
 
 -- of commands that were answered, those that are no questions
 abbrev pub changes_of : List Answered → List Answered
@@ -30,16 +30,16 @@ answered (command ∷ commands) state =
 pub record CarriesAll (old new : Standing) (commands : List Command) (run : List Answered)
     : Type 0 where
   pub just : changes_of run ≡ answered commands old.state
-  pub leads : LeadsTo old.state commands new.state
+  pub leads : LeadsAccepted old.state commands new.state
 
 -- What came of the first of the commands that were left, as they ended at a refusal: it was given
 -- this refusal; or it was not carried out, since a question met a fault, or memory ran out.
-abbrev pub EndsAt : State → List Command → List Answered → Refusal → Standing → Type 0
-EndsAt state left [] refusal new = IsFault refusal × (new.state ≡ state)
-EndsAt state (command ∷ left) (last ∷ []) refusal new =
+abbrev pub EndsAtRefusal : State → List Command → List Answered → Refusal → Standing → Type 0
+EndsAtRefusal state left [] refusal new = IsFault refusal × (new.state ≡ state)
+EndsAtRefusal state (command ∷ left) (last ∷ []) refusal new =
     (last ≡ record { command = command; answer = Err refusal })
     × Answers (open_at state) command (Err refusal) new
-EndsAt state left run refusal new = ⊥
+EndsAtRefusal state left run refusal new = ⊥
 
 -- Of these commands a front was carried out, each accepted, and then they ended at a refusal.
 pub record CarriesFront (old new : Standing) (commands : List Command) (refusal : Refusal)
@@ -48,16 +48,16 @@ pub record CarriesFront (old new : Standing) (commands : List Command) (refusal 
   pub left : List Command
   pub front : commands ≡ done ++ left
   pub mid : State
-  pub leads : LeadsTo old.state done mid
+  pub leads : LeadsAccepted old.state done mid
   pub last : List Answered
   pub just : changes_of run ≡ answered done old.state ++ last
-  pub ends : EndsAt mid left last refusal new
+  pub ends : EndsAtRefusal mid left last refusal new
 
 -- From one store to another by these commands, or by a front of them, and by questions.
 pub record CarriesOutSome {S T : Type 0} (kept : Ghosts S) (old new : S)
     (commands : List Command) (result : Result T Refusal) : Type 0 where
   pub carried : List (Carried S)
-  pub carries_out : CarriesOut kept old carried new
+  pub carries_out : CarriesAllOut kept old carried new
   pub ends : kept.closed old ≡ false → MatchResult result
       (λ _. CarriesAll (standing_of kept old) (standing_of kept new) commands (run_of carried))
       (λ refusal. CarriesFront (standing_of kept old) (standing_of kept new) commands refusal

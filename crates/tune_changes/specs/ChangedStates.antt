@@ -2,10 +2,10 @@
 use Rattle.std.specs.Prelude.{◌≡◌, ℕ, List, [], ◌∷◌, map, Option, None, Some}
 use Rattle.std.specs.Prelude.{if◌then◌else◌}
 use Rattle.std.specs.Str.{bytes_eq}
-use Rattle.tune_sets.specs.Sets.{inserted as set_inserted, without as without_set}
+use Rattle.tune_sets.specs.Sets.{set_inserted as set_inserted, without_set as without_set}
 use Rattle.tune_sets.specs.declared.set_lists.TuneSet.{TuneSet}
 use Rattle.tune_store.specs.State.{State, tune_at}
-use Rattle.tune_store.specs.TuneSteps.{inserted, without, revised}
+use Rattle.tune_store.specs.TuneSteps.{tune_inserted, without_tune, revised}
 use Rattle.tune_store.specs.declared.tune.Tune.{Tune}
 use Rattle.tune_changes.specs.SubjectTurns.{Subject, Aim}
 use Rattle.tune_changes.specs.SubjectTurns.Subject.{TuneOf, SetOf}
@@ -36,9 +36,9 @@ tune_with number (Some tune) text =
 
 -- tunes in which the one of a number has this text, or is not there
 abbrev pub put_text : ℕ → Option (List ℕ) → List Tune → List Tune
-put_text number None tunes = without number tunes
+put_text number None tunes = without_tune number tunes
 put_text number (Some text) tunes =
-    inserted (tune_with number (tune_at number tunes) text) (without number tunes)
+    tune_inserted (tune_with number (tune_at number tunes) text) (without_tune number tunes)
 
 -- set lists of which that of a name has these numbers, or is not there
 abbrev pub put_numbers : List ℕ → Option (List ℕ) → List TuneSet → List TuneSet

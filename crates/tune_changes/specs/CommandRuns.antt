@@ -17,5 +17,5 @@ AreAccepted (command ∷ commands) state =
     IsTrue (accepts state command) × AreAccepted commands (step state command).0
 
 -- the commands lead from one state to another, and none of them is refused
-abbrev pub LeadsTo : State → List Command → State → Type 0
-LeadsTo old commands new = AreAccepted commands old × (after_commands commands old ≡ new)
+abbrev pub LeadsAccepted : State → List Command → State → Type 0
+LeadsAccepted old commands new = AreAccepted commands old × (after_commands commands old ≡ new)

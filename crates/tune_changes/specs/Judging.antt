@@ -19,11 +19,11 @@ use Rattle.tune_changes.specs.declared.judging.Verdict.TheVariants.{Before, Begu
 
 -- TUNES
 -- whether a tune is what it was
-abbrev pub is_before : Option (List ℕ) → Option Tune → Bool
-is_before None None = true
-is_before None (Some tune) = false
-is_before (Some text) None = false
-is_before (Some text) (Some tune) = bytes_eq tune.text text
+abbrev pub is_as_before : Option (List ℕ) → Option Tune → Bool
+is_as_before None None = true
+is_as_before None (Some tune) = false
+is_as_before (Some text) None = false
+is_as_before (Some text) (Some tune) = bytes_eq tune.text text
 
 -- whether a tune is what it was to be: not there, or of a text with this sum, or of this revision
 abbrev pub is_after : After → Option Tune → Bool
@@ -37,7 +37,7 @@ is_after (Revision revision) (Some tune) = tune.revision == revision
 -- how a tune stands, by what it was, what it was to be, and what it is
 abbrev pub tune_verdict : Option (List ℕ) → After → Option Tune → PartVerdict
 tune_verdict was is now =
-    if is_before was now then its.Before
+    if is_as_before was now then its.Before
     else if is_after is now then its.After
     else its.Changed
 
@@ -50,14 +50,14 @@ is_same (Some one) None = false
 is_same (Some one) (Some other) = bytes_eq one other
 
 -- whether numbers begin with others
-abbrev pub begins_with : List ℕ → List ℕ → Bool
-begins_with front numbers = bytes_eq front (take (length front) numbers)
+abbrev pub numbers_begin_with : List ℕ → List ℕ → Bool
+numbers_begin_with front numbers = bytes_eq front (take (length front) numbers)
 
 -- whether numbers stand at neighbouring places of others
 abbrev pub is_run_of : List ℕ → List ℕ → Bool
-is_run_of run [] = begins_with run []
+is_run_of run [] = numbers_begin_with run []
 is_run_of run (number ∷ numbers) =
-    begins_with run (number ∷ numbers) || is_run_of run numbers
+    numbers_begin_with run (number ∷ numbers) || is_run_of run numbers
 
 -- the numbers of a set list; none where there is none
 abbrev pub numbers_or_none : Option (List ℕ) → List ℕ
@@ -70,7 +70,7 @@ numbers_or_none (Some numbers) = numbers
 abbrev pub is_on_the_way : List ℕ → List ℕ → List ℕ → Bool
 is_on_the_way was is now =
     let kept = common_front was is in
-    begins_with (take kept was) now
+    numbers_begin_with (take kept was) now
     && (is_run_of (drop kept now) was || is_run_of (drop kept now) is)
 
 abbrev pub is_between : Option (List ℕ) → Option (List ℕ) → Option (List ℕ) → Bool

@@ -27,15 +27,15 @@ use Rattle.tune_changes.specs.declared.turns.Turn.{Turn}
 use Rattle.tune_changes.specs.declared.turns.Turn.TheVariants as turn
 
 -- a turn before more
-abbrev pub with_more : Result Turn Refusal → Result (List Turn) Refusal
+abbrev pub turn_with_more : Result Turn Refusal → Result (List Turn) Refusal
     → Result (List Turn) Refusal
-with_more (Err refusal) more = Err refusal
-with_more (Ok first) (Err refusal) = Err refusal
-with_more (Ok first) (Ok turns) = Ok (first ∷ turns)
+turn_with_more (Err refusal) more = Err refusal
+turn_with_more (Ok first) (Err refusal) = Err refusal
+turn_with_more (Ok first) (Ok turns) = Ok (first ∷ turns)
 
 -- one turn alone
-abbrev pub alone : Result Turn Refusal → Result (List Turn) Refusal
-alone answer = with_more answer (Ok [])
+abbrev pub one_turn : Result Turn Refusal → Result (List Turn) Refusal
+one_turn answer = turn_with_more answer (Ok [])
 
 -- DELETE
 -- the tune of a number goes, where there is one, and no set list names it
@@ -50,7 +50,7 @@ abbrev pub tunes_gone : List ℕ → List ℕ → State → Result (List Turn) R
 tunes_gone gone [] state = Ok []
 tunes_gone gone (number ∷ numbers) state =
     if is_among number gone then Err (Unknown number)
-    else with_more (tune_gone number (holder number state.sets) (tune_at number state.tunes))
+    else turn_with_more (tune_gone number (holder number state.sets) (tune_at number state.tunes))
     (tunes_gone (gone ++ number ∷ []) numbers state)
 
 -- PUT
@@ -109,14 +109,14 @@ with_number_at place number numbers =
     take (place - 1) numbers ++ number ∷ drop (place - 1) numbers
 
 -- the number at a place stands at another one
-abbrev pub moved : ℕ → ℕ → List ℕ → List ℕ
-moved place to old = with_number_at to (slice_index old (place - 1)) (remove old (place - 1))
+abbrev pub moved_place : ℕ → ℕ → List ℕ → List ℕ
+moved_place place to old = with_number_at to (slice_index old (place - 1)) (remove old (place - 1))
 
 abbrev pub place_moved : List ℕ → ℕ → ℕ → Option (List ℕ) → Result Turn Refusal
 place_moved name place to None = Err NoSuchSet
 place_moved name place to (Some old) =
     if list_all (λ at. has_place at old) (place ∷ to ∷ [])
-    then Ok (turn.Set name (Some old) (Some (moved place to old)))
+    then Ok (turn.Set name (Some old) (Some (moved_place place to old)))
     else Err NoSuchPlace
 
 -- DROP
@@ -127,13 +127,13 @@ set_gone name (Some old) = Ok (turn.Set name (Some old) None)
 -- EVERY CHANGE
 abbrev pub planned_by : Alteration → State → Result (List Turn) Refusal
 planned_by (Delete numbers) state = tunes_gone [] numbers.items state
-planned_by (Put name numbers) state = alone (tunes_put (string_bytes name) numbers.items state)
+planned_by (Put name numbers) state = one_turn (tunes_put (string_bytes name) numbers.items state)
 planned_by (Cut name places) state =
-    alone (places_cut (string_bytes name) places.items (numbers_at (string_bytes name) state))
+    one_turn (places_cut (string_bytes name) places.items (numbers_at (string_bytes name) state))
 planned_by (Move name place to) state =
-    alone (place_moved (string_bytes name) place to (numbers_at (string_bytes name) state))
+    one_turn (place_moved (string_bytes name) place to (numbers_at (string_bytes name) state))
 planned_by (Drop name) state =
-    alone (set_gone (string_bytes name) (numbers_at (string_bytes name) state))
+    one_turn (set_gone (string_bytes name) (numbers_at (string_bytes name) state))
 
 -- REPLACE
 -- whether a revision is one that was not asked for
@@ -151,7 +151,7 @@ text_replaced number revision text (Some tune) =
 
 abbrev pub planned_replace : ℕ → Option ℕ → List ℕ → State → Result (List Turn) Refusal
 planned_replace number revision text state =
-    alone (text_replaced number revision text (tune_at number state.tunes))
+    one_turn (text_replaced number revision text (tune_at number state.tunes))
 
 -- CALLS
 -- turns are those of a plan, by set lists that are those of the state

@@ -14,7 +14,7 @@ use Rattle.tune_store.specs.declared.tune.Tune.{Tune}
 use Rattle.tune_store.specs.declared.command.Command.{Command}
 use Rattle.tune_changes.specs.SubjectTurns.{Subject, Turn, content, numbers_at, aim_of, aim_back}
 use Rattle.tune_changes.specs.SubjectTurns.Subject.{TuneOf, SetOf}
-use Rattle.tune_changes.specs.CommandRuns.{after_commands, AreAccepted, LeadsTo}
+use Rattle.tune_changes.specs.CommandRuns.{after_commands, AreAccepted, LeadsAccepted}
 use Rattle.tune_changes.specs.Bringing.{brought, brought_each}
 use Rattle.tune_changes.specs.ChangedStates.{AreAlike, AreAlikeBut}
 
@@ -112,7 +112,7 @@ pub record LeavesRevisions (times : ℕ) (state : State) : Type 0 where
 -- the turns taken back from a state lead to one that is alike another, and no command is refused
 abbrev pub TakesBack : List Turn → State → State → Type 0
 TakesBack turns now old =
-    (back : State) × LeadsTo now (taken_back turns now) back × AreAlike back old
+    (back : State) × LeadsAccepted now (taken_back turns now) back × AreAlike back old
 
 -- WHERE TURNS CAN BE TAKEN BACK
 -- turns can be taken back from the state of now: it is within the limits, and revisions are left

@@ -1,7 +1,8 @@
 // How the tunes and set lists of an entry stand.
 ghost use Rattle.std.specs.Prelude.{◌≡◌, ◌≤◌, ◌||◌, ◌&&◌, true, drop, length, None, Some, Ok};
 ghost use Rattle.tune_asking.specs.AskingCalls.{Call, told_by};
-ghost use Rattle.tune_changes.specs.Judging.{begins_with, is_after, is_before, is_between};
+ghost use Rattle.tune_changes.specs.Judging.{numbers_begin_with, is_after, is_as_before};
+ghost use Rattle.tune_changes.specs.Judging.{is_between};
 ghost use Rattle.tune_changes.specs.Judging.{is_on_the_way, is_run_of, is_same, numbers_or_none};
 ghost use Rattle.tune_changes.specs.Judging.{part_verdict, says_before, says_changed};
 ghost use Rattle.tune_changes.specs.Judging.{set_verdict, tune_verdict, verdict_on};
@@ -133,7 +134,7 @@ pub fn tune_verdict(was: &Option<TuneText>, is: &After, now: &Option<Tune>) -> P
 
 // Whether a tune is what it was.
 fn is_before(was: &Option<TuneText>, now: &Option<Tune>) -> bool
-    ensures { result ≡ is_before was.now now.now }
+    ensures { result ≡ is_as_before was.now now.now }
 {
     match (was, now) {
         (None, None) => true,
@@ -232,7 +233,7 @@ fn is_behind(run: &[u32], was: &[u32], is: &[u32]) -> bool
 
 // Whether numbers begin with others.
 fn begins_with(front: &[u32], numbers: &[u32]) -> bool
-    ensures is { result ≡ begins_with front.now numbers.now }
+    ensures is { result ≡ numbers_begin_with front.now numbers.now }
     ensures long { result ≡ true → length front.now ≤ length numbers.now }
 {
     numbers.starts_with(front)
@@ -253,7 +254,7 @@ fn is_run_of(run: &[u32], numbers: &[u32]) -> bool
 // Whether numbers stand in others, from a place on.
 fn stands_at(run: &[u32], numbers: &[u32], place: usize) -> bool
     requires { place ≤ length numbers.now }
-    ensures { result ≡ begins_with run.now (drop place numbers.now) }
+    ensures { result ≡ numbers_begin_with run.now (drop place numbers.now) }
 {
     begins_with(run, &numbers[place..])
 }

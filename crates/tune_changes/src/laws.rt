@@ -4,7 +4,7 @@ ghost use Rattle.std.specs.List.{AllByRecursion};
 ghost use Rattle.tune_store.specs.State.{State, IsState};
 ghost use Rattle.tune_changes.specs.SubjectTurns.{Subject, Turn, Aim, content};
 ghost use Rattle.tune_changes.specs.SubjectTurns.Subject.{SetOf};
-ghost use Rattle.tune_changes.specs.CommandRuns.{after_commands, AreAccepted, LeadsTo};
+ghost use Rattle.tune_changes.specs.CommandRuns.{after_commands, AreAccepted, LeadsAccepted};
 ghost use Rattle.tune_changes.specs.Bringing.{brought, brought_each};
 ghost use Rattle.tune_changes.specs.ChangedStates.{with_content, with_each, AreAlikeBut};
 ghost use Rattle.tune_changes.specs.Undoing.{IsGiven, CanBe, BringsAbout, brought_about, TakesBack};
@@ -23,7 +23,7 @@ ghost use Rattle.tune_changes.specs.Undoing.{CanGoBack, StandsAfter, NotBegun, S
 pub fn law_of_bringing()
     ensures brings { (state : State) (subject : Subject) (to : Option (List ℕ))
         → IsState state → CanBe subject to state
-        → LeadsTo state (brought subject to state) (with_content subject to state) }
+        → LeadsAccepted state (brought subject to state) (with_content subject to state) }
     ensures only { (state : State) (subject : Subject) (to : Option (List ℕ))
         → IsState state → IsGiven subject to → AreAccepted (brought subject to state) state
         → CanBe subject to state }
@@ -39,7 +39,7 @@ pub fn law_of_bringing()
     ensures resumed { (state : State) (subject : Subject) (to : Option (List ℕ)) (count : ℕ)
         → IsState state → CanBe subject to state
         → let commands = brought subject to state in
-        LeadsTo (after_commands (take count commands) state) (drop count commands)
+        LeadsAccepted (after_commands (take count commands) state) (drop count commands)
         (with_content subject to state) }
     ensures stopped { (state : State) (name : List ℕ) (to : Option (List ℕ)) (count : ℕ)
         → IsState state
@@ -63,7 +63,7 @@ pub fn law_of_bringing()
 pub fn law_of_undo()
     ensures about { (old new : State) (turns : List Turn)
         → IsState old → BringsAbout turns old new
-        → LeadsTo old (brought_about turns old) new }
+        → LeadsAccepted old (brought_about turns old) new }
     ensures back { (old now : State) (turns : List Turn)
         → IsState old → CanGoBack turns now → StandsAfter turns old now
         → TakesBack turns now old }

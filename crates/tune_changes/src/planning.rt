@@ -7,7 +7,7 @@ ghost use Rattle.tune_sets.specs.Numbers.{is_among};
 ghost use Rattle.tune_store.specs.State.{tune_at};
 ghost use Rattle.tune_asking.specs.AskingCalls.{Call, told_by};
 ghost use Rattle.tune_changes.specs.Planning.{planned_by, planned_replace, planned_when};
-ghost use Rattle.tune_changes.specs.Planning.{alone, is_stale, text_replaced, tune_gone};
+ghost use Rattle.tune_changes.specs.Planning.{one_turn, is_stale, text_replaced, tune_gone};
 ghost use Rattle.tune_changes.specs.Planning.{tunes_gone, tunes_put};
 ghost use Rattle.tune_changes.specs.Inside.TurnPlans.{IsPlannedOrFault, all_gone, are_known};
 ghost use Rattle.tune_changes.specs.Inside.TurnPlans.{gone_at, turns_told};
@@ -197,7 +197,7 @@ fn tunes_put<S: TuneStore + Catalog>(
     numbers: &[u32],
 ) -> Result<Vec<Turn>, Refusal>
     ensures { Call S.TuneStore store.old store.new (planned_when (S.Catalog.sets store.old)
-        (λ state. alone (tunes_put name.now numbers.now state))) result }
+        (λ state. one_turn (tunes_put name.now numbers.now state))) result }
 {
     let Some(name) = SetName::new(name) else {
         return Err(Refusal::BadName);
@@ -220,7 +220,7 @@ fn look_for<S: TuneStore>(store: &mut S, numbers: &[u32]) -> Result<(), Refusal>
 // One turn alone.
 fn alone(alloc: Global, turn: Result<Turn, Refusal>) -> Result<Vec<Turn>, Refusal>
     ensures { (told : Result Turn Refusal) → IsToldOrFault told turn
-        → IsPlannedOrFault (alone told) result }
+        → IsPlannedOrFault (one_turn told) result }
 {
     let turn = turn?;
     let mut turns = Vec::with_capacity(alloc, 1)?;

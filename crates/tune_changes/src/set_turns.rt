@@ -7,9 +7,9 @@ ghost use Rattle.tune_sets.specs.Numbers.{has_place, is_among};
 ghost use Rattle.tune_sets.specs.declared.set_lists.TuneSet.{TuneSet};
 ghost use Rattle.tune_sets.specs.Sets.{holder, set_at};
 ghost use Rattle.tune_asking.specs.Asking.{IsToldOrFault};
-ghost use Rattle.tune_changes.specs.Planning.{moved, numbers_put, place_moved, places_cut};
+ghost use Rattle.tune_changes.specs.Planning.{moved_place, numbers_put, place_moved, places_cut};
 ghost use Rattle.tune_changes.specs.Planning.{set_gone, without_places};
-ghost use Rattle.tune_changes.specs.Inside.TurnPlans.{numbers_in};
+ghost use Rattle.tune_changes.specs.Inside.TurnPlans.{numbers_of_set};
 
 use crate::turns::Turn;
 use std::alloc::{AllocError, Global};
@@ -24,7 +24,7 @@ pub(crate) fn numbers_put(
     numbers: &[u32],
 ) -> Result<Turn, Refusal>
     ensures { IsToldOrFault
-        (numbers_put name numbers.now sets.now (numbers_in name sets.now)) result }
+        (numbers_put name numbers.now sets.now (numbers_of_set name sets.now)) result }
 {
     match set_of(sets.as_slice(), name.as_slice()) {
         None => set_made(alloc, sets, name, numbers),
@@ -79,7 +79,7 @@ pub(crate) fn places_cut(
     places: &[u32],
 ) -> Result<Turn, Refusal>
     ensures { IsToldOrFault
-        (places_cut name.now places.now (numbers_in name.now sets.now)) result }
+        (places_cut name.now places.now (numbers_of_set name.now sets.now)) result }
 {
     let Some(set) = set_of(sets.as_slice(), name) else {
         return Err(Refusal::NoSuchSet);
@@ -104,7 +104,7 @@ pub(crate) fn place_moved(
     to: u32,
 ) -> Result<Turn, Refusal>
     ensures { IsToldOrFault
-        (place_moved name.now place to (numbers_in name.now sets.now)) result }
+        (place_moved name.now place to (numbers_of_set name.now sets.now)) result }
 {
     let Some(set) = set_of(sets.as_slice(), name) else {
         return Err(Refusal::NoSuchSet);
@@ -122,7 +122,7 @@ pub(crate) fn place_moved(
 
 // The set list of a name goes.
 pub(crate) fn set_gone(alloc: Global, sets: &SetLists, name: &[u8]) -> Result<Turn, Refusal>
-    ensures { IsToldOrFault (set_gone name.now (numbers_in name.now sets.now)) result }
+    ensures { IsToldOrFault (set_gone name.now (numbers_of_set name.now sets.now)) result }
 {
     let Some(set) = set_of(sets.as_slice(), name) else {
         return Err(Refusal::NoSuchSet);
@@ -202,7 +202,7 @@ fn is_place_of(index: usize, places: &[u32]) -> bool
 // The numbers with the one at a place at another.
 fn moved(alloc: Global, numbers: &[u32], place: usize, to: usize) -> Result<NumberList, AllocError>
     requires { list_all (λ at. has_place at numbers.now) (place ∷ to ∷ []) ≡ true }
-    ensures { IfOk result (λ list. list ≡ moved place to numbers.now) }
+    ensures { IfOk result (λ list. list ≡ moved_place place to numbers.now) }
 {
     let mut moved = Vec::from_slice(alloc, numbers)?;
     let number = moved.remove(place - 1);

@@ -3,7 +3,7 @@ ghost use Rattle.std.specs.Prelude.{◌≡◌, ◌+◌, [], ◌∷◌, None, Som
 ghost use Rattle.std.specs.Str.{bytes_eq};
 ghost use Rattle.tune_store.specs.State.{greatest};
 ghost use Rattle.tune_store.specs.declared.command.Command.TheVariants.{Import, Replace};
-ghost use Rattle.tune_changes.specs.Bringing.{book_with, brought_tune, renumbered};
+ghost use Rattle.tune_changes.specs.Bringing.{book_with, brought_tune, renumber_commands};
 ghost use Rattle.tune_changes.specs.Carrying.{Carries};
 
 use crate::carrying::carry_out;
@@ -56,7 +56,7 @@ fn take_in<S: TuneStore>(
     text: &TuneText,
 ) -> Result<(), Refusal>
     ensures { Carries S.TuneStore store.old store.new (Import (book_with number text.now)
-        ∷ renumbered (greatest (S.TuneStore.state store.old).tunes + 1) number) result }
+        ∷ renumber_commands (greatest (S.TuneStore.state store.old).tunes + 1) number) result }
 {
     let book = book_of(alloc, number, text)?;
     match carry_out(store, &Command::Import(book))? {
@@ -67,7 +67,7 @@ fn take_in<S: TuneStore>(
 
 // A tune that has one number gets another one, where that is another.
 fn renumber<S: TuneStore>(store: &mut S, number: u32, to: u32) -> Result<(), Refusal>
-    ensures { Carries S.TuneStore store.old store.new (renumbered number to) result }
+    ensures { Carries S.TuneStore store.old store.new (renumber_commands number to) result }
 {
     if number == to {
         return Ok(());

@@ -27,7 +27,7 @@ use Rattle.tune_archive.specs.Media.{moment_of, LeftAt}
 use Rattle.tune_archive.specs.OpenedArchive.{IsUnopenedArchiveFor, StandsForNoneOrEmpty}
 use Rattle.tune_archive.specs.Shelf.{Shelf, state_of}
 use Rattle.tune_archive.proofs.DiskMoments.{left_of_kind, moment_rises}
-use Rattle.tune_scripts.specs.Carried.{Carried, CarriesOut, LeftByRun, run_of, timed_of, timeline_of}
+use Rattle.tune_scripts.specs.Carried.{Carried, CarriesAllOut, LeftByRun, run_of, timed_of, timeline_of}
 use Rattle.tune_scripts.specs.Timelines.{Timeline, RisesTo, AreAnswered, StandsForFirst}
 use Rattle.tune_scripts.specs.Limits.{most_lines}
 use Rattle.tune_scripts.specs.Prefixes.{FailsLast}
@@ -39,7 +39,7 @@ use Rattle.tune_scripts.proofs.CarriedLemmas.{ends_by_last, passes_all}
 use Rattle.tune_scripts.proofs.TimelineLemmas.{are_answered, answers_timed, rises_run, none_before, none_then, one_fails_last}
 use Rattle.tune_scripts.proofs.TimelineLemmas.{left_by_run}
 use Rattle.tune_cli.specs.Acts.{Deeds, OnFile}
-use Rattle.tune_cli.specs.FileActs.{Makes as MakesOn, Checks, RunsOn, Upgrades, HasNotOpened, HasChecked, HasRun, HasUpgraded}
+use Rattle.tune_cli.specs.FileActs.{Makes as MakesOn, Checks, RunsOn, UpgradesOrNot, HasNotOpened, HasChecked, HasRun, HasUpgraded}
 use Rattle.tune_cli.specs.FileActs.{HasMade, HasNotMade}
 use Rattle.tune_cli.specs.Headline.{File, HoldsThroughout, IsDone, IsRefused, DoesOn}
 use Rattle.tune_cli.specs.Headline.{IsMade, IsNotMade, RunsInMemory}
@@ -106,7 +106,7 @@ module _ {D : Type 0} (disks : disk.Ghosts D) where
       → (store_on disks).stands_for file ((store_on disks).state store)
   settled_on store file sound honest is_open left = sound.rest honest is_open file (left_now (state_at disks.state store.pages.disk) file left)
 
-  pub left_on : (carried : List (Carried (Shelf D))) (old new : Shelf D) → CarriesOut (store_on disks) old carried new → FailsLast (run_of carried)
+  pub left_on : (carried : List (Carried (Shelf D))) (old new : Shelf D) → CarriesAllOut (store_on disks) old carried new → FailsLast (run_of carried)
       → (store_on disks).honest new → (store_on disks).sound old → (store_on disks).closed old ≡ false
       → LeftByRun (store_on disks) old carried new
   left_on carried old new h fails honest sound is_open =
@@ -115,7 +115,7 @@ module _ {D : Type 0} (disks : disk.Ghosts D) where
       is_open
 
   -- an archive that was opened, and commands that it carried out then
-  keeps_run : (carried : List (Carried (Shelf D))) (before after : Shelf D) (old new : D) → CarriesOut (store_on disks) before carried after
+  keeps_run : (carried : List (Carried (Shelf D))) (before after : Shelf D) (old new : D) → CarriesAllOut (store_on disks) before carried after
       → FailsLast (run_of carried) → LeftByRun (store_on disks) before carried after → Holds (disks.state old).seen (state_of disks.state before)
       → SinceThen (disks.state old) (state_at disks.state before.pages.disk) (LeftOrSame (disks.state old)) → before.closed ≡ false
       → after.pages.disk ≡ Some new → disks.honest new → HoldsThroughout (file_on old new) (timeline_of (store_on disks) before carried)
@@ -188,7 +188,7 @@ module _ {D : Type 0} (disks : disk.Ghosts D) where
         says = (_, refl, one.asked, one.line);
       }
 
-  pub upgrades_done : (path : _) (streams : Streams) (old : D) (done : Done D) → Upgrades disks streams old done
+  pub upgrades_done : (path : _) (streams : Streams) (old : D) (done : Done D) → UpgradesOrNot disks streams old done
       → DoesOn disks (action.Upgrade path) streams old done
   upgrades_done path streams old done (inl upgraded) = λ honest. inl (done_upgrade path streams old done upgraded honest)
   upgrades_done path streams old done (inr not) = λ honest. inr (has_refused streams old done not honest)
@@ -250,7 +250,7 @@ module _ {D : Type 0} (disks : disk.Ghosts D) where
 
 -- MEMORY
 pub runs_in_memory : {S : Type 0} (s : Ghosts S) (streams : Streams) (carried : List (Carried S)) (old new : S) (end : RunEnd) (status : ℕ)
-    → CarriesOut s old carried new → EndsAfter end (run_of carried) → s.closed old ≡ false → s.state old ≡ empty_state → status ≡ status_of end
+    → CarriesAllOut s old carried new → EndsAfter end (run_of carried) → s.closed old ≡ false → s.state old ≡ empty_state → status ≡ status_of end
     → TellsFaults streams (Some end) → TellsScript most_lines streams.input.was.left streams.input.now.left
     (work_by streams.output.was.bytes streams.output.now.bytes (run_of carried)) end → RunsInMemory streams status
 runs_in_memory s streams carried old new end status h ends is_open empty is faults tells =

@@ -14,7 +14,7 @@ use Rattle.tune_scripts.specs.ScriptRuns.{work_by, TellsScript, IsOtherEnd}
 use Rattle.tune_scripts.specs.Looks.{TellsFaults, LooksFlushed, LooksPromptly}
 use Rattle.tune_scripts.specs.Streams.{Streams}
 use Rattle.tune_scripts.specs.declared.script_runs.RunEnd.{RunEnd}
-use Rattle.tune_cli.specs.FileActs.{Makes, Checks, RunsOn, Upgrades}
+use Rattle.tune_cli.specs.FileActs.{Makes, Checks, RunsOn, UpgradesOrNot}
 use Rattle.tune_cli.specs.ProgramLines.{WritesLine, reason_bytes, status_of}
 use Rattle.tune_cli.specs.declared.command_line.Action.{Action}
 use Rattle.tune_cli.specs.declared.command_line.Action.TheVariants as action
@@ -73,4 +73,4 @@ Acts disks (action.Run file) streams deeds status =
 Acts disks (action.Check file) streams deeds status =
     OnFile opened (string_bytes file) (Checks disks streams) streams deeds status
 Acts disks (action.Upgrade file) streams deeds status =
-    OnFile opened (string_bytes file) (Upgrades disks streams) streams deeds status
+    OnFile opened (string_bytes file) (UpgradesOrNot disks streams) streams deeds status

@@ -194,6 +194,6 @@ pub record HasUpgraded {D : Type 0} (disks : disk.Ghosts D) (streams : Streams) 
   pub upgraded : disks.honest done.disk → Upgraded disks streams old done.disk done.status
 
 -- It was, or it was not opened.
-abbrev pub Upgrades : {D : Type 0} → disk.Ghosts D → Streams → D → Done D → Type 0
-Upgrades disks streams old done =
+abbrev pub UpgradesOrNot : {D : Type 0} → disk.Ghosts D → Streams → D → Done D → Type 0
+UpgradesOrNot disks streams old done =
     HasUpgraded disks streams old done ⊎ HasNotOpened disks streams old done

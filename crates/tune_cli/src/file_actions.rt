@@ -7,7 +7,7 @@ ghost use Rattle.tune_archive.specs.Shelf.{state_of};
 ghost use Rattle.tune_cli.specs.Acts.{OnFile, deeds_in};
 ghost use Rattle.tune_scripts.specs.Replies.{answer_bytes, line_of};
 ghost use Rattle.tune_scripts.specs.Streams.{IsWrite, streams_in};
-ghost use Rattle.tune_cli.specs.FileActs.{Makes, Checks, RunsOn, Upgrades};
+ghost use Rattle.tune_cli.specs.FileActs.{Makes, Checks, RunsOn, UpgradesOrNot};
 ghost use Rattle.tune_cli.specs.ProgramLines.{WritesLine, reason_bytes, status_of_opening};
 ghost use Rattle.tune_cli.specs.ProgramLines.{counts_bytes, status_of_answer};
 
@@ -115,7 +115,7 @@ pub fn run_on<C: Console, D: Disk>(alloc: Global, console: &mut C, disk: D) -> D
 /// in layout 2. An archive of layout 2 is not written to.
 pub fn upgrade_on<C: Console, D: Disk>(alloc: Global, console: &mut C, disk: D) -> Done<D>
     ensures honest { D.honest result.disk → D.honest disk }
-    ensures upgrades { Upgrades D.Disk
+    ensures upgrades { UpgradesOrNot D.Disk
         (streams_in C.Console console.old console.new) disk result }
 {
     match Archive::open(alloc, disk) {
@@ -179,7 +179,7 @@ pub(crate) fn upgrade<C: Console, D: Disk, T: AllocGlobal + Drive<Disk = D>>(
     console: &mut C,
 ) -> u8
     ensures { let streams = streams_in C.Console console.old console.new in
-        OnFile opened (string_bytes path.now) (Upgrades D.Disk streams) streams
+        OnFile opened (string_bytes path.now) (UpgradesOrNot D.Disk streams) streams
         (deeds_in T.Drive drive.old drive.new) result }
 {
     match drive.open(path) {

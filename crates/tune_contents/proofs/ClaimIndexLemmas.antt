@@ -4,7 +4,7 @@ use Rattle.index_keys.specs.Entries.{Entry}
 use Rattle.tune_index.specs.Indexes.{Shape}
 use Rattle.tune_index.specs.ListedLeaves.{IsStored, LoadsIndex, index_with, pages_claimed}
 use Rattle.tune_parts.specs.Parts.{Part}
-use Rattle.tune_search.specs.LoadedParts.{HasClaimed, firsts_of, parts_loaded, search_loaded}
+use Rattle.tune_search.specs.LoadedParts.{HasClaimed, search_firsts_of, parts_loaded, search_loaded}
 use Rattle.tune_search.specs.Loaded.{AreStored, LoadsSearch, search_with}
 use Rattle.tune_search.specs.Searches.{SearchRuns, SearchShape, key_bytes}
 use Rattle.tune_search.specs.declared.loading.SearchFirsts.{SearchFirsts}
@@ -50,5 +50,5 @@ pub search_stored : (notes most : ℕ) (pages : List (List ℕ)) (claimed : List
     → IsSearchThere notes most pages front firsts → AreStored notes most pages claimed firsts
 search_stored notes most pages claimed firsts front has there =
     subst (λ (f : SearchFirsts). AreStored notes most pages claimed f) there.are_first
-    (subst (λ (n : ℕ). AreStored n most pages claimed (firsts_of there.parts)) there.same
+    (subst (λ (n : ℕ). AreStored n most pages claimed (search_firsts_of there.parts)) there.same
     (there_four most pages claimed there.parts there.runs front there.more there.are has.marks there.holds))

@@ -24,7 +24,7 @@ use Rattle.tune_store.specs.Limits.{layout_number, most_tunes, notes_of}
 use Rattle.tune_store.specs.State.{State}
 use Rattle.tune_store.specs.declared.layout.Layout.{Layout}
 use Rattle.tune_store.specs.declared.tune.Tune.{Tune}
-use Rattle.tune_format.specs.Filed.{numbered_texts, rows_of}
+use Rattle.tune_format.specs.Filed.{numbered_texts, rows_of_tunes}
 use Rattle.tune_format.specs.States.{IsStateOf}
 use Rattle.tune_format.specs.RootOffsets.{version_offset}
 use Rattle.tune_format.specs.Written.{IsRoot, number_at, number_entries, row_entry}
@@ -71,9 +71,9 @@ most_there pages firsts factor most root le state is =
 
 -- HOW MANY ENTRIES
 numbers_few : (pages : List (List ℕ)) (state : State) (is : IsStateOf pages state) (most : ℕ) → 1 * most_tunes state.layout ≤ most
-    → HoldsAtMost key_bytes most is.filed.numbers (number_entries (rows_of state.tunes is.filed.texts))
+    → HoldsAtMost key_bytes most is.filed.numbers (number_entries (rows_of_tunes state.tunes is.filed.texts))
 numbers_few pages state is most le =
-    let rows = rows_of state.tunes is.filed.texts in
+    let rows = rows_of_tunes state.tunes is.filed.texts in
     let count = rows_count state.tunes is.filed.texts is.filed.are_tunes in
     let few = is.within.tunes.count in
     record { holds = is.filed.are_numbers; few = omega (arith, count, few, le, length-map rows row_entry) }
@@ -102,7 +102,7 @@ searches_few pages state is most le =
 -- WHAT A STATE HAS THERE
 -- where its search indexes begin
 searches_begin : {layout : Layout} → (pages : List (List ℕ)) (state : State) (is : IsStateOf pages state) (firsts : Firsts)
-    → IsRoot layout (page_at pages 0) firsts → loaded.firsts_of is.filed.searches ≡ firsts.searches
+    → IsRoot layout (page_at pages 0) firsts → loaded.search_firsts_of is.filed.searches ≡ firsts.searches
 searches_begin pages state is firsts root = λ i. record {
   titles = (sym is.filed.root.titles ∙ root.titles) i;
   rhythms = (sym is.filed.root.rhythms ∙ root.rhythms) i;
@@ -114,7 +114,7 @@ numbers_there : {layout : Layout} → (pages : List (List ℕ)) (firsts : Firsts
     → IsStateThere pages → IsIndexThere most pages [] firsts.numbers
 numbers_there pages firsts most root le (state, is) = record {
   parts = is.filed.numbers;
-  entries = number_entries (rows_of state.tunes is.filed.texts);
+  entries = number_entries (rows_of_tunes state.tunes is.filed.texts);
   more = parts_of_search is.filed.searches ++ is.filed.set_lists ∷ is.filed.texts;
   are = is.filed.parts;
   holds = numbers_few pages state is most (most_there pages firsts 1 most root le state is);
@@ -172,9 +172,9 @@ same_numbers : {layout : Layout} → (pages : List (List ℕ)) (now : List Bool)
     → IsRoot layout (page_at pages 0) firsts
     → 1 * most_tunes layout ≤ most → (first : ClaimsIndex most (pages_claimed pages now) [] firsts.numbers (index_with shape entries)) (state : State)
     (is : IsStateOf pages state)
-    → (is.filed.numbers ≡ first.parts) × (number_entries (rows_of state.tunes is.filed.texts) ≡ entries)
+    → (is.filed.numbers ≡ first.parts) × (number_entries (rows_of_tunes state.tunes is.filed.texts) ≡ entries)
 same_numbers pages now firsts most shape entries root le first state is =
-    first.only is.filed.numbers (number_entries (rows_of state.tunes is.filed.texts))
+    first.only is.filed.numbers (number_entries (rows_of_tunes state.tunes is.filed.texts))
     (parts_of_search is.filed.searches ++ is.filed.set_lists ∷ is.filed.texts) is.filed.parts
     (numbers_few pages state is most (most_there pages firsts 1 most root le state is)) (sym is.filed.root.numbers ∙ root.numbers)
 

@@ -28,11 +28,11 @@ use Rattle.tune_sets.specs.Sets.{AreSetLists}
 use Rattle.tune_sets.specs.SetBytes.{written_sets}
 use Rattle.tune_sets.specs.declared.set_lists.TuneSet.{TuneSet}
 use Rattle.tune_store.specs.Limits.{greatest_number, most_tunes, notes_of}
-use Rattle.tune_store.specs.State.{State, RisesFrom, greatest, tune_at, AreHeld, NameTunes}
+use Rattle.tune_store.specs.State.{State, NumbersRiseFrom, greatest, tune_at, AreHeld, NameTunes}
 use Rattle.tune_store.specs.declared.layout.Layout.{Layout}
 use Rattle.tune_store.specs.declared.layout.Layout.TheVariants.{One, Two}
 use Rattle.tune_store.specs.declared.tune.Tune.{Tune}
-use Rattle.tune_format.specs.Filed.{HoldTunes, archive_parts, numbered_texts, rows_of}
+use Rattle.tune_format.specs.Filed.{HoldTunes, archive_parts, numbered_texts, rows_of_tunes}
 use Rattle.tune_format.specs.States.{IsStateOf}
 use Rattle.tune_format.specs.Written.{IsRoot, number_entries}
 use Rattle.tune_format.specs.declared.root.Firsts.{Firsts}
@@ -45,30 +45,30 @@ use Rattle.tune_contents.specs.declared.contents.Contents.{Contents}
 use Rattle.tune_contents.specs.Inside.ClaimedParts.{AreBlocks, AreRowsThere, AreTunesThere, ClaimsLists, HasLists, IsStateThere, ListsClaimed, StandAtKeys}
 use Rattle.tune_contents.specs.Inside.ClaimedParts.{TunesClaimed, runs_filed, tune_site}
 use Rattle.tune_contents.specs.Inside.ClaimedRows.{AreEntriesOfRows, HasNumber, HaveFew, NumberRows, NameRows}
-use Rattle.tune_contents.specs.Inside.TuneRows.{numbers_in}
+use Rattle.tune_contents.specs.Inside.TuneRows.{numbers_of_rows}
 use Rattle.tune_contents.proofs.ClaimLemmas.{at_pages, claimed_as}
 use Rattle.tune_contents.proofs.ClaimListLemmas.{fault_where, layout_there, searches_few, state_some}
 use Rattle.tune_contents.proofs.ClaimedRowLemmas.{all_each, each_all, rows_as, same_numbers}
 
 -- ROWS OF TUNES
-rise_of : (low : ℕ) (tunes : List Tune) (texts : List Part) → RisesFrom low tunes → RowsRise low (rows_of tunes texts)
+rise_of : (low : ℕ) (tunes : List Tune) (texts : List Part) → NumbersRiseFrom low tunes → RowsRise low (rows_of_tunes tunes texts)
 rise_of low [] texts rises = tt
 rise_of low (tune ∷ tunes) [] rises = tt
 rise_of low (tune ∷ tunes) (part ∷ texts) rises = (rises.0, rise_of tune.number tunes texts rises.1)
 
 within_of : (tunes : List Tune) (texts : List Part) → greatest tunes ≤ greatest_number
-    → AllByRecursion (λ row. row.number ≤ greatest_number) (rows_of tunes texts)
+    → AllByRecursion (λ row. row.number ≤ greatest_number) (rows_of_tunes tunes texts)
 within_of [] texts top = tt
 within_of (tune ∷ tunes) [] top = tt
 within_of (tune ∷ tunes) (part ∷ texts) top = (omega (arith, top), within_of tunes texts (omega (arith, top)))
 
-rises_by : (low : ℕ) (tunes : List Tune) (texts : List Part) → HoldTunes texts tunes → RowsRise low (rows_of tunes texts) → RisesFrom low tunes
+rises_by : (low : ℕ) (tunes : List Tune) (texts : List Part) → HoldTunes texts tunes → RowsRise low (rows_of_tunes tunes texts) → NumbersRiseFrom low tunes
 rises_by low [] texts hold rise = tt
 rises_by low (tune ∷ tunes) [] hold rise = absurd (tune_without tune tunes hold)
 rises_by low (tune ∷ tunes) (part ∷ texts) hold rise = (rise.0, rises_by tune.number tunes texts (later_held part texts tune tunes hold) rise.1)
 
 top_by : (tunes : List Tune) (texts : List Part) → HoldTunes texts tunes
-    → AllByRecursion (λ row. row.number ≤ greatest_number) (rows_of tunes texts) → greatest tunes ≤ greatest_number
+    → AllByRecursion (λ row. row.number ≤ greatest_number) (rows_of_tunes tunes texts) → greatest tunes ≤ greatest_number
 top_by [] texts hold within = omega arith
 top_by (tune ∷ tunes) [] hold within = absurd (tune_without tune tunes hold)
 top_by (tune ∷ tunes) (part ∷ texts) hold within =
@@ -77,14 +77,14 @@ top_by (tune ∷ tunes) (part ∷ texts) hold within =
     omega (arith, more, here)
 
 -- their numbers
-numbers_of_rows : (tunes : List Tune) (texts : List Part) → HoldTunes texts tunes
-    → numbers_in (rows_of tunes texts) ≡ map (λ (tune : ℕ × List ℕ). tune.0) (numbered_texts tunes)
-numbers_of_rows [] texts hold = refl
-numbers_of_rows (tune ∷ tunes) [] hold = absurd (tune_without tune tunes hold)
-numbers_of_rows (tune ∷ tunes) (part ∷ texts) hold =
-    ap (λ (l : List ℕ). tune.number ∷ l) (numbers_of_rows tunes texts (later_held part texts tune tunes hold))
+rows_have_numbers : (tunes : List Tune) (texts : List Part) → HoldTunes texts tunes
+    → numbers_of_rows (rows_of_tunes tunes texts) ≡ map (λ (tune : ℕ × List ℕ). tune.0) (numbered_texts tunes)
+rows_have_numbers [] texts hold = refl
+rows_have_numbers (tune ∷ tunes) [] hold = absurd (tune_without tune tunes hold)
+rows_have_numbers (tune ∷ tunes) (part ∷ texts) hold =
+    ap (λ (l : List ℕ). tune.number ∷ l) (rows_have_numbers tunes texts (later_held part texts tune tunes hold))
 
-state_rows : (pages : List (List ℕ)) (state : State) (is : IsStateOf pages state) → AreRows state.layout (rows_of state.tunes is.filed.texts)
+state_rows : (pages : List (List ℕ)) (state : State) (is : IsStateOf pages state) → AreRows state.layout (rows_of_tunes state.tunes is.filed.texts)
 state_rows pages state is =
     let few = is.within.tunes.count in
     let count = rows_count state.tunes is.filed.texts is.filed.are_tunes in
@@ -95,14 +95,14 @@ state_rows pages state is =
     }
 
 -- OWN NUMBERS
-above_all : (low : ℕ) (tunes : List Tune) → RisesFrom low tunes → (t : ℕ × List ℕ) → Contains (numbered_texts tunes) t → low < t.0
+above_all : (low : ℕ) (tunes : List Tune) → NumbersRiseFrom low tunes → (t : ℕ × List ℕ) → Contains (numbered_texts tunes) t → low < t.0
 above_all low [] rises t c = absurd (contains_none t c)
 above_all low (tune ∷ tunes) rises t c = elim (contains_cases (tune.number, tune.text) (numbered_texts tunes) t c) [
   | inl e ↦ subst (λ (n : ℕ). low < n) (ap (λ (x : ℕ × List ℕ). x.0) e) rises.0
   | inr more ↦ let first = rises.0 in let later = above_all tune.number tunes rises.1 t more in omega (arith, first, later)
 ]
 
-own_numbers : (low : ℕ) (tunes : List Tune) → RisesFrom low tunes → HaveOwnNumbers (numbered_texts tunes)
+own_numbers : (low : ℕ) (tunes : List Tune) → NumbersRiseFrom low tunes → HaveOwnNumbers (numbered_texts tunes)
 own_numbers low [] rises = λ t other c also same. absurd (contains_none t c)
 own_numbers low (tune ∷ tunes) rises = λ t other c also same.
     elim (contains_cases (tune.number, tune.text) (numbered_texts tunes) t c) as (λ _. t ≡ other) [
@@ -201,7 +201,7 @@ joined numbers searches set_lists texts =
 -- NAMES
 -- a number that a tune has is that of its row
 tune_has : (number : ℕ) (tunes : List Tune) (texts : List Part) → HoldTunes texts tunes → IsSome (tune_at number tunes)
-    → HasNumber (rows_of tunes texts) number
+    → HasNumber (rows_of_tunes tunes texts) number
 tune_has number [] texts hold some = absurd (false≢true some)
 tune_has number (tune ∷ tunes) [] hold some = absurd (tune_without tune tunes hold)
 tune_has number (tune ∷ tunes) (part ∷ texts) hold some = elim (cases_Bool (eqb tune.number number)) [
@@ -209,7 +209,7 @@ tune_has number (tune ∷ tunes) (part ∷ texts) hold some = elim (cases_Bool (
   | inr differs ↦ (let found = rw differs at some in inr (tune_has number tunes texts (later_held part texts tune tunes hold) found))
 ]
 
-has_tune : (number : ℕ) (tunes : List Tune) (texts : List Part) → HasNumber (rows_of tunes texts) number → IsSome (tune_at number tunes)
+has_tune : (number : ℕ) (tunes : List Tune) (texts : List Part) → HasNumber (rows_of_tunes tunes texts) number → IsSome (tune_at number tunes)
 has_tune number [] texts has = absurd has
 has_tune number (tune ∷ tunes) [] has = absurd has
 has_tune number (tune ∷ tunes) (part ∷ texts) (inl same) = let e = eq-eqb tune.number number same in rw e refl
@@ -219,23 +219,24 @@ has_tune number (tune ∷ tunes) (part ∷ texts) (inr has) = elim (cases_Bool (
 ]
 
 -- rows with the same numbers have each of them
-has_as : (number : ℕ) (rows others : List Row) → numbers_in rows ≡ numbers_in others → HasNumber others number → HasNumber rows number
+has_as : (number : ℕ) (rows others : List Row) → numbers_of_rows rows ≡ numbers_of_rows others → HasNumber others number → HasNumber rows number
 has_as number rows [] same has = absurd has
 has_as number [] (other ∷ others) same has = absurd (let size = ap (λ (l : List ℕ). length l) same in omega arith)
 has_as number (row ∷ rows) (other ∷ others) same (inl is) = inl (ap (λ (l : List ℕ). get_or l 0 0) same ∙ is)
 has_as number (row ∷ rows) (other ∷ others) same (inr has) = inr (has_as number rows others (ap (λ (l : List ℕ). drop 1 l) same) has)
 
 named_there : (tunes : List Tune) (texts : List Part) (rows : List Row) (sets : List TuneSet) → HoldTunes texts tunes
-    → number_entries rows ≡ number_entries (rows_of tunes texts) → NameTunes tunes sets → NameRows rows sets
+    → number_entries rows ≡ number_entries (rows_of_tunes tunes texts) → NameTunes tunes sets → NameRows rows sets
 named_there tunes texts rows sets hold same named =
     let held : (number : ℕ) → IsSome (tune_at number tunes) → HasNumber rows number =
-    λ number some. has_as number rows (rows_of tunes texts) (same_numbers rows (rows_of tunes texts) same) (tune_has number tunes texts hold some) in
+    λ number some. has_as number rows (rows_of_tunes tunes texts) (same_numbers rows (rows_of_tunes tunes texts) same)
+    (tune_has number tunes texts hold some) in
     each_all (λ set. NumberRows rows set.numbers) sets
     (all_map (λ set. AreHeld tunes set.numbers) (λ set. NumberRows rows set.numbers)
     (λ set names. each_all (HasNumber rows) set.numbers
     (all_map (λ number. IsSome (tune_at number tunes)) (HasNumber rows) held set.numbers names)) sets named)
 
-tunes_named : (tunes : List Tune) (texts : List Part) (rows : List Row) (sets : List TuneSet) → rows ≡ rows_of tunes texts → NameRows rows sets
+tunes_named : (tunes : List Tune) (texts : List Part) (rows : List Row) (sets : List TuneSet) → rows ≡ rows_of_tunes tunes texts → NameRows rows sets
     → NameTunes tunes sets
 tunes_named tunes texts rows sets same names =
     let held : (number : ℕ) → HasNumber rows number → IsSome (tune_at number tunes) =
@@ -254,18 +255,18 @@ module _ (pages : List (List ℕ)) (state : State) (is : IsStateOf pages state) 
     (entries : List Entry) (runs : SearchRuns) (has : HasLists is numbers searches set_lists entries runs) where
   -- its rows are those of the entries
   listed_there : AreEntriesOfRows state.layout entries
-  listed_there = (rows_of state.tunes is.filed.texts, state_rows pages state is, has.are_entries)
+  listed_there = (rows_of_tunes state.tunes is.filed.texts, state_rows pages state is, has.are_entries)
 
   holds_there : HoldByNumber (numbered_texts state.tunes) runs
   holds_there = subst (HoldByNumber (numbered_texts state.tunes)) has.are_runs (state_holds pages state is)
 
   -- rows of the same entries have its numbers
   numbers_there : (rows : List Row) → number_entries rows ≡ entries
-      → numbers_in rows ≡ map (λ (tune : ℕ × List ℕ). tune.0) (numbered_texts state.tunes)
-  numbers_there rows same = same_numbers rows (rows_of state.tunes is.filed.texts) (same ∙ sym has.are_entries)
-      ∙ numbers_of_rows state.tunes is.filed.texts is.filed.are_tunes
+      → numbers_of_rows rows ≡ map (λ (tune : ℕ × List ℕ). tune.0) (numbered_texts state.tunes)
+  numbers_there rows same = same_numbers rows (rows_of_tunes state.tunes is.filed.texts) (same ∙ sym has.are_entries)
+      ∙ rows_have_numbers state.tunes is.filed.texts is.filed.are_tunes
 
-  known_there : (rows : List Row) → number_entries rows ≡ entries → HaveFew runs × AreAllKnown (numbers_in rows) runs
+  known_there : (rows : List Row) → number_entries rows ≡ entries → HaveFew runs × AreAllKnown (numbers_of_rows rows) runs
   known_there rows same =
       let holds = holds_there in
       let few = subst (λ (r : SearchRuns). HoldEachAtMost 400000 searches r) has.are_runs
@@ -365,7 +366,7 @@ pub state_claimed : (at pages : List (List ℕ)) (now last : List Bool) (content
     (bytes : List ℕ) (listed : List Row) → at ≡ pages
     → ClaimsLists contents.layout (pages_claimed pages now) contents.firsts (index_with contents.numbers entries) (search_with contents.searches runs) bytes
     → AreRows contents.layout contents.rows.items → number_entries listed ≡ entries → number_entries contents.rows.items ≡ number_entries listed
-    → AreAllKnown (numbers_in listed) runs
+    → AreAllKnown (numbers_of_rows listed) runs
     → written_sets contents.sets ≡ bytes → AreSetLists contents.sets → NameRows contents.rows.items contents.sets
     → ((front : List Part) → HasClaimed at now front → TunesClaimed (tune_site contents.layout at front runs) last contents.rows.items)
     → IsClaimed pages contents last
@@ -375,10 +376,10 @@ state_claimed at pages now last contents entries runs bytes listed on l are same
     let t : TunesClaimed (tune_site contents.layout pages front runs) last rows =
     at_pages (λ p before. TunesClaimed (tune_site contents.layout p before runs) last rows) at pages now front on l.has call in
     let has = claimed_as pages last _ _ (joined l.numbers l.searches l.set_lists t.texts) t.has in
-    let rows_same : number_entries (rows_of t.tunes t.texts) ≡ entries = ap number_entries (sym t.rows_are) ∙ also ∙ same in
-    let its : AreRows contents.layout (rows_of t.tunes t.texts) = subst (AreRows contents.layout) t.rows_are are in
-    let numbers : numbers_in listed ≡ map (λ (tune : ℕ × List ℕ). tune.0) (numbered_texts t.tunes) =
-    same_numbers listed (rows_of t.tunes t.texts) (same ∙ sym rows_same) ∙ numbers_of_rows t.tunes t.texts t.hold in
+    let rows_same : number_entries (rows_of_tunes t.tunes t.texts) ≡ entries = ap number_entries (sym t.rows_are) ∙ also ∙ same in
+    let its : AreRows contents.layout (rows_of_tunes t.tunes t.texts) = subst (AreRows contents.layout) t.rows_are are in
+    let numbers : numbers_of_rows listed ≡ map (λ (tune : ℕ × List ℕ). tune.0) (numbered_texts t.tunes) =
+    same_numbers listed (rows_of_tunes t.tunes t.texts) (same ∙ sym rows_same) ∙ rows_have_numbers t.tunes t.texts t.hold in
     let holds : HoldByNumber (numbered_texts t.tunes) runs =
     held_all runs t.tunes t.keys (subst (λ (n : List ℕ). AreAllKnown n runs) numbers known) in
     let list = numbered_texts t.tunes in
@@ -392,7 +393,7 @@ state_claimed at pages now last contents entries runs bytes listed on l are same
     let its_index : HoldsIndex (4 * notes_of contents.layout) l.searches.incipits runs.incipits =
     subst (λ (n : ℕ). HoldsIndex (4 * n) l.searches.incipits runs.incipits) l.notes
     (kept_index contents.searches.incipits l.searches.incipits l.all_listed.incipits l.incipits) in
-    let keeps : KeepsIndex key_bytes contents.numbers l.numbers (number_entries (rows_of t.tunes t.texts)) =
+    let keeps : KeepsIndex key_bytes contents.numbers l.numbers (number_entries (rows_of_tunes t.tunes t.texts)) =
     subst (λ (es : List Entry). KeepsIndex key_bytes contents.numbers l.numbers es) (sym rows_same) l.keeps in
     let count = rows_count t.tunes t.texts t.hold in
     record {
@@ -462,7 +463,7 @@ pub texts_claimed : {layout : Layout} → (at pages : List (List ℕ)) (now last
     → contents.layout ≡ layout → contents.rows.items ≡ rows → contents.sets ≡ sets
     → ClaimsLists layout (pages_claimed pages now) contents.firsts (index_with contents.numbers entries) (search_with contents.searches runs) bytes
     → AreRows layout listed → number_entries listed ≡ entries → number_entries rows ≡ number_entries listed
-    → AreAllKnown (numbers_in listed) runs → written_sets sets ≡ bytes → AreSetLists sets → NameRows rows sets
+    → AreAllKnown (numbers_of_rows listed) runs → written_sets sets ≡ bytes → AreSetLists sets → NameRows rows sets
     → ((front : List Part) → HasClaimed at now front → TunesClaimed (tune_site layout at front runs) last rows)
     → IsClaimed pages contents last
 texts_claimed at pages now last contents entries runs bytes listed rows sets on its its_rows its_sets l are same also known written good names call =

@@ -15,14 +15,14 @@ use Rattle.tune_search.specs.Searches.{SearchRuns}
 use Rattle.tune_store.specs.declared.layout.Layout.{Layout}
 use Rattle.tune_store.specs.State.{IsTune}
 use Rattle.tune_store.specs.declared.tune.Tune.{Tune}
-use Rattle.tune_format.specs.Filed.{row_of}
+use Rattle.tune_format.specs.Filed.{row_of_tune}
 use Rattle.tune_format.specs.Written.{number_entries, row_entry}
 use Rattle.tune_format.specs.declared.rows.Row.{Row}
 use Rattle.tune_format.proofs.TextLemmas.{none_held, one_held, first_held, later_held, texts_join, rows_join}
 use Rattle.tune_contents.specs.Most.{most_tune_pages}
 use Rattle.tune_contents.specs.Inside.ClaimedParts.{AreTunesThere, ChainsClaimed, ClaimsPart, ClaimsSoFar, ClaimsTune, HoldsTune, HoldsTuneOf}
 use Rattle.tune_contents.specs.Inside.ClaimedParts.{IsPartThere, IsTuneThere, TunesStand, tune_site}
-use Rattle.tune_contents.specs.Inside.TuneRows.{numbers_in}
+use Rattle.tune_contents.specs.Inside.TuneRows.{numbers_of_rows}
 use Rattle.tune_contents.proofs.ClaimLemmas.{at_pages, claimed_as, its_part, tune_claimed}
 use Rattle.tune_contents.proofs.ClaimSizes.{tune_few}
 use Rattle.tune_contents.proofs.ClaimedRowLemmas.{entry_first, entry_number, first_entry, later_entries, none_behind}
@@ -48,7 +48,7 @@ first_tune pages front runs row rows (tunes, texts, stand) = first_of_tunes page
 
 -- its entry
 its_entry : {layout : Layout} → (pages : List (List ℕ)) (front : List Part) (runs : SearchRuns) (row : Row) (rows : List Row)
-    (f : FirstTune layout pages front runs row rows) → row_entry (row_of f.tune f.part) ≡ row_entry row
+    (f : FirstTune layout pages front runs row rows) → row_entry (row_of_tune f.tune f.part) ≡ row_entry row
 its_entry pages front runs row rows f = first_entry _ _ _ _ f.stand.listed
 
 -- where the tunes of rows stand, the first of them does
@@ -66,13 +66,13 @@ tune_there {layout} pages front runs row rows all =
         more = f.more;
         are = stand.are;
         is_chain = stand.hold.are_chains.0;
-        is_first = entry_first (row_of f.tune f.part) row entry;
+        is_first = entry_first (row_of_tune f.tune f.part) row entry;
         few = tune_few pages stand.sized f.part stand.hold.are_chains.0 (its_part pages front f.part f.more stand.are) layout f.tune written its.fits;
       };
       revision = f.tune.revision;
       text = f.tune.text;
       tune = record { written = sym written; revised = its.revised; few = its.revision; good = record { tune_text = its.text; fits = its.fits } };
-      keys = subst (λ (n : ℕ). StandsAtKeys runs n f.tune.text) (entry_number (row_of f.tune f.part) row entry) stand.keys.0;
+      keys = subst (λ (n : ℕ). StandsAtKeys runs n f.tune.text) (entry_number (row_of_tune f.tune f.part) row entry) stand.keys.0;
     }
 
 -- and the others stand behind it
@@ -82,7 +82,7 @@ tunes_behind_as : {layout : Layout} → (pages : List (List ℕ)) (front : List 
 tunes_behind_as {layout} pages front runs row rows now bytes first alike claims all =
     let f = first_tune pages front runs row rows all in
     let stand = f.stand in
-    let begins : f.part.first ≡ first = entry_first (row_of f.tune f.part) row (its_entry pages front runs row rows f) ∙ sym alike in
+    let begins : f.part.first ≡ first = entry_first (row_of_tune f.tune f.part) row (its_entry pages front runs row rows f) ∙ sym alike in
     let same : f.part ≡ claims.part = claims.only f.part stand.hold.are_chains.0 (its_part pages front f.part f.more stand.are) begins in
     let listing : front ++ f.part ∷ f.more ≡ (front ++ claims.part ∷ []) ++ f.more =
     ap (λ p. front ++ p ∷ f.more) same ∙ sym (append_assoc front (claims.part ∷ []) f.more) in (
@@ -137,7 +137,7 @@ claims_more {layout} pages front runs list claimed now rows next later row so sa
     let listing : (front ++ s.texts) ++ part ∷ [] ≡ front ++ (s.texts ++ part ∷ []) = append_assoc front s.texts (part ∷ []) in
     let holds : part.bytes ≡ claims.bytes = claims.claims.holds in
     let its = one_held part tune claims.claims.is_chain (holds ∙ sym claims.tune.written) in
-    let its_row : row_of tune part ≡ row =
+    let its_row : row_of_tune tune part ≡ row =
     (λ i. record { number = row.number; revision = row.revision; first = claims.claims.is_first i; length = sym claims.measured i }) in
     record {
       so_far = record {
@@ -370,11 +370,11 @@ lent_back n seen now lent items is same long alike =
     ∙ take_all n now (omega (arith, alike, long))
 
 -- the numbers of a group
-pub group_numbers : (rows list : List Row) (numbers : List ℕ) (from n : ℕ) → numbers ≡ numbers_in list → drop from rows ≡ drop from list
-    → take n (drop from numbers) ≡ numbers_in (take n (drop from rows))
+pub group_numbers : (rows list : List Row) (numbers : List ℕ) (from n : ℕ) → numbers ≡ numbers_of_rows list → drop from rows ≡ drop from list
+    → take n (drop from numbers) ≡ numbers_of_rows (take n (drop from rows))
 group_numbers rows list numbers from n are later =
     ap (λ (l : List ℕ). take n (drop from l)) are ∙ ap (λ (l : List ℕ). take n l) (drop-map (λ (row : Row). row.number) from list)
-    ∙ take-map (λ (row : Row). row.number) n (drop from list) ∙ ap (λ (l : List Row). numbers_in (take n l)) (sym later)
+    ∙ take-map (λ (row : Row). row.number) n (drop from list) ∙ ap (λ (l : List Row). numbers_of_rows (take n l)) (sym later)
 
 -- A turn, as the code has it.
 pub claims_turn : {layout : Layout} → (old pages : List (List ℕ)) (front : List Part) (runs : SearchRuns) (list : List Row) (claimed now : List Bool)

@@ -16,7 +16,7 @@ use Rattle.tune_store.specs.declared.layout.Layout.{Layout}
 use Rattle.tune_format.specs.Written.{number_entries, number_key, row_entry}
 use Rattle.tune_format.specs.declared.rows.Row.{Row}
 use Rattle.tune_contents.specs.Inside.ClaimedRows.{AreEntriesFrom, AreEntriesOfRows, HasNumber, RowsSoFar}
-use Rattle.tune_contents.specs.Inside.TuneRows.{numbers_in}
+use Rattle.tune_contents.specs.Inside.TuneRows.{numbers_of_rows}
 use Rattle.tune_contents.specs.Claimed.{AreRows, RowsRise}
 
 -- each number is above what the rows rise from
@@ -88,7 +88,7 @@ first_entry e f es fs same = ap (λ (l : List Entry). get_or l 0 no_entry) same
 pub later_entries : (e f : Entry) (es fs : List Entry) → e ∷ es ≡ f ∷ fs → es ≡ fs
 later_entries e f es fs same = ap (λ (l : List Entry). drop 1 l) same
 
-pub same_numbers : (rows others : List Row) → number_entries rows ≡ number_entries others → numbers_in rows ≡ numbers_in others
+pub same_numbers : (rows others : List Row) → number_entries rows ≡ number_entries others → numbers_of_rows rows ≡ numbers_of_rows others
 same_numbers [] [] same = refl
 same_numbers [] (other ∷ others) same = absurd (let size = ap (λ (l : List Entry). length l) same in omega arith)
 same_numbers (row ∷ rows) [] same = absurd (let size = ap (λ (l : List Entry). length l) same in omega arith)
@@ -98,7 +98,7 @@ same_numbers (row ∷ rows) (other ∷ others) same =
     (λ i. one i ∷ more i)
 
 -- Rows are within the limits by their numbers alone.
-rise_as : (low : ℕ) (rows others : List Row) → numbers_in rows ≡ numbers_in others → RowsRise low others → RowsRise low rows
+rise_as : (low : ℕ) (rows others : List Row) → numbers_of_rows rows ≡ numbers_of_rows others → RowsRise low others → RowsRise low rows
 rise_as low [] others same rise = tt
 rise_as low (row ∷ rows) [] same rise = absurd (let size = ap (λ (l : List ℕ). length l) same in omega arith)
 rise_as low (row ∷ rows) (other ∷ others) same rise =
@@ -106,7 +106,7 @@ rise_as low (row ∷ rows) (other ∷ others) same rise =
     let more = rise_as other.number rows others (ap (λ (l : List ℕ). drop 1 l) same) rise.1 in
     (subst (λ (n : ℕ). low < n) (sym one) rise.0, subst (λ (n : ℕ). RowsRise n rows) (sym one) more)
 
-within_as : (rows others : List Row) → numbers_in rows ≡ numbers_in others → AllByRecursion (λ row. row.number ≤ greatest_number) others
+within_as : (rows others : List Row) → numbers_of_rows rows ≡ numbers_of_rows others → AllByRecursion (λ row. row.number ≤ greatest_number) others
     → AllByRecursion (λ row. row.number ≤ greatest_number) rows
 within_as [] others same within = tt
 within_as (row ∷ rows) [] same within = absurd (let size = ap (λ (l : List ℕ). length l) same in omega arith)
@@ -221,22 +221,22 @@ rows_end list rows low i end so few =
 
 -- NUMBERS
 -- they rise from place to place
-increase : (low : ℕ) (rows : List Row) (k : ℕ) → RowsRise low rows → suc k < length (numbers_in rows)
-    → get_or (numbers_in rows) k 0 < get_or (numbers_in rows) (suc k) 0
+increase : (low : ℕ) (rows : List Row) (k : ℕ) → RowsRise low rows → suc k < length (numbers_of_rows rows)
+    → get_or (numbers_of_rows rows) k 0 < get_or (numbers_of_rows rows) (suc k) 0
 increase low [] k rise l = absurd (omega arith)
 increase low (row ∷ []) k rise l = absurd (omega arith)
 increase low (row ∷ other ∷ rows) zero rise l = rise.1.0
 increase low (row ∷ other ∷ rows) (suc k) rise l = increase row.number (other ∷ rows) k rise.1 (omega arith)
 
-pub numbers_increase : (numbers : List ℕ) (rows : List Row) → numbers ≡ numbers_in rows → RowsRise 0 rows → (k : ℕ) → k + 1 < length numbers
+pub numbers_increase : (numbers : List ℕ) (rows : List Row) → numbers ≡ numbers_of_rows rows → RowsRise 0 rows → (k : ℕ) → k + 1 < length numbers
     → get_or numbers k 0 < get_or numbers (k + 1) 0
 numbers_increase numbers rows same rise k l =
-    let ns = numbers_in rows in
+    let ns = numbers_of_rows rows in
     let size = ap (λ (m : List ℕ). length m) same in
     let up : get_or ns k 0 < get_or ns (k + 1) 0 = rw add-one (increase 0 rows k rise (omega (arith, l, size))) in
     subst (λ (m : List ℕ). get_or m k 0 < get_or m (k + 1) 0) (sym same) up
 
-pub number_at_row : (rows : List Row) (i : ℕ) (d : Row) → d.number ≡ 0 → get_or (numbers_in rows) i 0 ≡ (get_or rows i d).number
+pub number_at_row : (rows : List Row) (i : ℕ) (d : Row) → d.number ≡ 0 → get_or (numbers_of_rows rows) i 0 ≡ (get_or rows i d).number
 number_at_row [] i d none = sym none
 number_at_row (row ∷ rows) zero d none = refl
 number_at_row (row ∷ rows) (suc i) d none = number_at_row rows i d none

@@ -25,7 +25,7 @@ use Rattle.tune_store.specs.declared.plans.Change.{Change}
 use Rattle.tune_store.specs.declared.plans.Change.TheVariants.{Add, Put, Take, Move, NewSet}
 use Rattle.tune_store.specs.declared.plans.Change.TheVariants.{AddPlace, CutPlace, DropSet, Upgrade}
 use Rattle.tune_titles.specs.TitleAndRhythmKeys.{rhythm_keys, title_keys}
-use Rattle.tune_format.specs.Filed.{archive_parts, firsts_of, numbered_texts, rows_of}
+use Rattle.tune_format.specs.Filed.{archive_parts, firsts_of, numbered_texts, rows_of_tunes}
 use Rattle.tune_format.specs.Searched.{AreSearchIndexes, IsSearchIndex}
 use Rattle.tune_format.specs.Written.{IsRoot, number_entries}
 use Rattle.tune_format.specs.declared.root.Firsts.{Firsts}
@@ -192,7 +192,7 @@ pub memory_held : (s : Stand) (c : Memory) (layout : Layout) (tunes : List Tune)
     → set_lists.bytes ≡ written_sets c.sets → IsRoot c.layout (page_at s.pages 0) c.firsts
     → HoldsMemory s c (record { layout = layout; tunes = tunes; sets = sets })
 memory_held s c layout tunes sets set_lists known notes same says a kind begins bytes root =
-    let firsts = firsts_are c a.numbers a.searches set_lists (number_entries (rows_of tunes a.texts)) (numbered_texts tunes) says a.keeps_numbers
+    let firsts = firsts_are c a.numbers a.searches set_lists (number_entries (rows_of_tunes tunes a.texts)) (numbered_texts tunes) says a.keeps_numbers
     a.keeps_searches begins in
     record {
       layout = known;
@@ -205,7 +205,7 @@ memory_held s c layout tunes sets set_lists known notes same says a kind begins 
         parts = are_parts s (archive_parts a.numbers a.searches set_lists a.texts) a.holds;
         root = subst (λ (l : Layout). IsRoot l (page_at s.pages 0) (firsts_of a.numbers a.searches set_lists)) known
             (subst (λ (f : Firsts). IsRoot c.layout (page_at s.pages 0) f) firsts root);
-        are_numbers = index_held c.numbers a.numbers (number_entries (rows_of tunes a.texts)) says.numbers_listed a.keeps_numbers;
+        are_numbers = index_held c.numbers a.numbers (number_entries (rows_of_tunes tunes a.texts)) says.numbers_listed a.keeps_numbers;
         are_searches = subst (λ (n : ℕ). AreSearchIndexes n (numbered_texts tunes) a.searches) notes
             (searches_held c.searches a.searches (numbered_texts tunes) says.searches_listed a.keeps_searches);
         sets_are_chain = kind;

@@ -7,7 +7,7 @@ use Rattle.std.proofs.lemmas.List.FromFn.{length-map-range_with_len, get_or-map-
 use Rattle.tune_journal.specs.FileOffsets.{block_bytes, gate_open}
 use Rattle.tune_journal.specs.Image.{window, number, page_offset, entry_offset, pages_of, entries, gate_of, count_of, new_count_of, entry_count_of, log_of}
 use Rattle.tune_journal.specs.Image.{StandsFor}
-use Rattle.tune_journal.specs.Pages.{changed}
+use Rattle.tune_journal.specs.Pages.{changed_pages}
 use Rattle.tune_pages.proofs.FreePages.{AreSized}
 use Rattle.tune_parts.specs.Parts.{trails}
 use Rattle.tune_store.specs.SetSteps.{set_add_found}
@@ -49,7 +49,7 @@ sized_entries m k file long = λ i d lt.
     ∙ window_size (entry_offset m i + 4) file (omega (arith, within, long)))
 
 sized_after : (log : List (ℕ × List ℕ)) (pages : List (List ℕ)) → All (λ (e : ℕ × List ℕ). length e.1 ≡ block_bytes) log → AreSized pages
-    → AreSized (changed pages log)
+    → AreSized (changed_pages pages log)
 sized_after [] pages each sized = sized
 sized_after (e ∷ log) pages each sized =
     let Sized : ℕ × List ℕ → Type 0 = λ entry. length entry.1 ≡ block_bytes in

@@ -21,12 +21,12 @@ use Rattle.tune_search.specs.Searches.{key_bytes, parts_of_search}
 use Rattle.tune_sets.specs.declared.set_lists.TuneSet.{TuneSet}
 use Rattle.tune_store.specs.Limits.{greatest_number}
 use Rattle.tune_store.specs.Plans.{CanChange, changed_tunes}
-use Rattle.tune_store.specs.State.{IsTunes, RisesFrom, greatest}
+use Rattle.tune_store.specs.State.{IsTunes, NumbersRiseFrom, greatest}
 use Rattle.tune_store.specs.declared.layout.Layout.{Layout}
 use Rattle.tune_store.specs.declared.plans.Change.{Change}
 use Rattle.tune_store.specs.declared.tune.Tune.{Tune}
 use Rattle.tune_titles.specs.TitleAndRhythmKeys.{rhythm_keys, title_keys}
-use Rattle.tune_format.specs.Filed.{HoldTunes, archive_parts, numbered_texts, rows_of}
+use Rattle.tune_format.specs.Filed.{HoldTunes, archive_parts, numbered_texts, rows_of_tunes}
 use Rattle.tune_format.specs.RootOffsets.{number_bytes}
 use Rattle.tune_format.specs.Written.{number_entries}
 use Rattle.tune_format.specs.declared.rows.Row.{Row}
@@ -41,18 +41,19 @@ use Rattle.tune_contents.specs.declared.next.RowChange.{RowChange}
 use Rattle.tune_contents.specs.Inside.Searching.{ChangesTexts, HoldsTextsWith, LaysTexts, PutsIn, TakesOut, TakesSome, search_pages}
 
 -- ROWS
-rows_rise_from : (low : ℕ) (tunes : List Tune) (texts : List Part) → RisesFrom low tunes → RowsRise low (rows_of tunes texts)
+rows_rise_from : (low : ℕ) (tunes : List Tune) (texts : List Part) → NumbersRiseFrom low tunes → RowsRise low (rows_of_tunes tunes texts)
 rows_rise_from low [] texts rises = tt
 rows_rise_from low (tune ∷ tunes) [] rises = tt
 rows_rise_from low (tune ∷ tunes) (part ∷ texts) rises = (rises.0, rows_rise_from tune.number tunes texts rises.1)
 
-rows_below : (most : ℕ) (tunes : List Tune) (texts : List Part) → greatest tunes ≤ most → AllByRecursion (λ row. row.number ≤ most) (rows_of tunes texts)
+rows_below : (most : ℕ) (tunes : List Tune) (texts : List Part) → greatest tunes ≤ most → AllByRecursion (λ row. row.number ≤ most) (rows_of_tunes tunes texts)
 rows_below most [] texts le = tt
 rows_below most (tune ∷ tunes) [] le = tt
 rows_below most (tune ∷ tunes) (part ∷ texts) le = (omega (arith, le), rows_below most tunes texts (omega (arith, le)))
 
 -- the rows of tunes within the limits are within them
-pub are_rows : (layout : Layout) (tunes : List Tune) (texts : List Part) → IsTunes layout tunes → HoldTunes texts tunes → AreRows layout (rows_of tunes texts)
+pub are_rows : (layout : Layout) (tunes : List Tune) (texts : List Part) → IsTunes layout tunes → HoldTunes texts tunes
+    → AreRows layout (rows_of_tunes tunes texts)
 are_rows layout tunes texts within holds = record {
   rise = rows_rise_from 0 tunes texts within.rises;
   numbers = rows_below greatest_number tunes texts within.numbers;
@@ -109,7 +110,7 @@ pub record Stands (s : Stand) (index : Shape) (entries : List Entry) (search : S
   pub keeps_numbers : KeepsIndex key_bytes index numbers entries
   pub keeps_searches : KeepsTexts search searches held
   pub are_tunes : HoldTunes texts tunes
-  pub listed : rows ≡ rows_of tunes texts
+  pub listed : rows ≡ rows_of_tunes tunes texts
 
 -- ONE CHANGE AFTER THE OTHER
 module _ (s : Stand) (index : Shape) (entries : List Entry) (search : SearchShape) (held : List (ℕ × List ℕ)) (rows : List Row) (tunes : List Tune)

@@ -15,8 +15,8 @@ use Rattle.tune_store.specs.declared.layout.Layout.{Layout}
 use Rattle.tune_store.specs.declared.tune.Tune.{Tune}
 use Rattle.tune_store.specs.TuneSteps.{numbered}
 use Rattle.tune_store.proofs.StateLemmas.{numbered_next}
-use Rattle.tune_format.specs.Filed.{row_of, rows_of, HoldsTuneAt}
-use Rattle.tune_format.specs.Written.{written_tune, IsRoot}
+use Rattle.tune_format.specs.Filed.{row_of_tune, rows_of_tunes, HoldsTuneAt}
+use Rattle.tune_format.specs.Written.{stored_tune, IsRoot}
 use Rattle.tune_format.specs.declared.root.Firsts.{Firsts}
 use Rattle.tune_format.specs.declared.rows.Row.{Row}
 use Rattle.tune_format.proofs.ChangeLemmas.{has_text, row_at_place, add_text, put_text, cut_text, swap_part}
@@ -41,7 +41,8 @@ module _ (s : Stand) (ahead : List Part) (tunes : List Tune) (rows : List Row) (
   chain_there : HasChain s first there.part.trail there.part.bytes
   chain_there =
       let row = row_at_place holds.texts tunes place there in
-      let same : first ≡ there.part.first = is (rows_of there.front there.before) (rows_of there.back there.after) (row_of there.tune there.part)
+      let same : first
+      ≡ there.part.first = is (rows_of_tunes there.front there.before) (rows_of_tunes there.back there.after) (row_of_tune there.tune there.part)
       (holds.listed ∙ row.0) row.1 in
       subst (λ (n : ℕ). HasChain s n there.part.trail there.part.bytes) (sym same) (has_text s ahead holds.texts tunes place holds.holds there)
 
@@ -52,18 +53,18 @@ some_chain s rows place first l is (ahead, tunes, holds) =
     (at.part.trail, at.part.bytes, chain_there s ahead tunes rows place first l is holds)
 
 pub puts_tune : (s new : Stand) (rows : List Row) (place first next : ℕ) (tune : Tune) → place < length rows → IsFirstAt rows place first
-    → SwapsChain s new first next (written_tune tune)
+    → SwapsChain s new first next (stored_tune tune)
     → LaysTunes s new rows (slice_set rows place (record { number = tune.number; revision = tune.revision; first = next; length = length tune.text }))
     (λ tunes. slice_set tunes place tune)
 puts_tune s new rows place first next tune l is swap = λ ahead tunes holds.
     (let at = there s ahead tunes rows place first l is holds in
     let put = swap at.part.trail at.part.bytes (chain_there s ahead tunes rows place first l is holds) in
-    let part : Part = chain_part next put.0 (written_tune tune) in
+    let part : Part = chain_part next put.0 (stored_tune tune) in
     record {
       texts = slice_set holds.texts place part;
-      holds = put_text s new ahead holds.texts tunes place next put.0 (written_tune tune) holds.holds at put.1;
+      holds = put_text s new ahead holds.texts tunes place next put.0 (stored_tune tune) holds.holds at put.1;
       are_tunes = texts_put holds.texts tunes place part tune holds.are_tunes refl refl;
-      listed = ap (λ (r : List Row). slice_set r place (row_of tune part)) holds.listed ∙ sym (rows_put holds.texts tunes place part tune);
+      listed = ap (λ (r : List Row). slice_set r place (row_of_tune tune part)) holds.listed ∙ sym (rows_put holds.texts tunes place part tune);
     })
 
 pub takes_tune : (s new : Stand) (rows : List Row) (place first : ℕ) → place < length rows → IsFirstAt rows place first
@@ -80,16 +81,16 @@ takes_tune s new rows place first l is freed = λ ahead tunes holds.
     } in
     subst (λ (t : Stand). HoldsTunes t ahead (remove tunes place) (remove rows place)) (sym gone) left)
 
-pub adds_tune : (s new : Stand) (rows : List Row) (next : ℕ) (tune : Tune) (along : List ℕ) → PutsChain s new next along (written_tune tune)
+pub adds_tune : (s new : Stand) (rows : List Row) (next : ℕ) (tune : Tune) (along : List ℕ) → PutsChain s new next along (stored_tune tune)
     → LaysTunes s new rows (rows ++ record { number = tune.number; revision = tune.revision; first = next; length = length tune.text } ∷ [])
     (λ tunes. tunes ++ tune ∷ [])
 adds_tune s new rows next tune along put = λ ahead tunes holds.
-    (let part : Part = chain_part next along (written_tune tune) in
+    (let part : Part = chain_part next along (stored_tune tune) in
     record {
       texts = holds.texts ++ part ∷ [];
-      holds = add_text s new ahead holds.texts next along (written_tune tune) holds.holds put;
+      holds = add_text s new ahead holds.texts next along (stored_tune tune) holds.holds put;
       are_tunes = texts_join holds.texts (part ∷ []) tunes (tune ∷ []) holds.are_tunes (one_held part tune refl refl);
-      listed = ap (λ (r : List Row). r ++ row_of tune part ∷ []) holds.listed ∙ sym (rows_join holds.texts (part ∷ []) tunes (tune ∷ []) holds.are_tunes);
+      listed = ap (λ (r : List Row). r ++ row_of_tune tune part ∷ []) holds.listed ∙ sym (rows_join holds.texts (part ∷ []) tunes (tune ∷ []) holds.are_tunes);
     })
 
 -- the same of an answer, on a disk that is honest

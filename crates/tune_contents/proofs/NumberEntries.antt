@@ -5,28 +5,28 @@ use Rattle.std.specs.List.{insert, remove, range_with_len}
 use Rattle.std.proofs.Math.Nat.{mul-le-mul_right}
 use Rattle.std.proofs.Math.Seq.{drop-append_seam, map-set_same, take-length}
 use Rattle.std.proofs.lemmas.List.{map-append, map-set, take_more}
-use Rattle.index_keys.specs.Entries.{AllFit, Entry, FitsLeaf, IsRising, RisesFrom, inserted, inserted_all, rank, removed, removed_all}
+use Rattle.index_keys.specs.Entries.{AllFit, Entry, FitsLeaf, IsRising, EntriesRiseFrom, entry_inserted, inserted_all, rank, removed, removed_all}
 use Rattle.index_keys.proofs.RisingEntries.{inserted_front, inserted_later, removed_later, removed_there, rises_at, rises_middle}
 use Rattle.tune_format.specs.Written.{number_entries, number_key, row_entry}
 use Rattle.tune_format.specs.declared.rows.Row.{Row}
 use Rattle.tune_search.specs.Searches.{key_bytes}
 use Rattle.tune_contents.specs.Claimed.{RowsRise}
 use Rattle.tune_contents.specs.Inside.ChangedRows.{PutsRuns}
-use Rattle.tune_contents.specs.Inside.TuneRows.{numbers_in}
+use Rattle.tune_contents.specs.Inside.TuneRows.{numbers_of_rows}
 
 -- ENTRIES AT A PLACE
 -- one that rises in front of others is put there
-put_ahead : (low : ℕ) (e : Entry) (es : List Entry) → RisesFrom low (e ∷ es) → inserted e es ≡ e ∷ es
+put_ahead : (low : ℕ) (e : Entry) (es : List Entry) → EntriesRiseFrom low (e ∷ es) → entry_inserted e es ≡ e ∷ es
 put_ahead low e [] up = refl
 put_ahead low e (x ∷ es) up = inserted_front e x es (let l = up.1.0 in omega arith)
 
-rises_inserted : (low : ℕ) (es : List Entry) (at : ℕ) (e : Entry) → at ≤ length es → RisesFrom low (insert es at e) → low ≤ rank e
+rises_inserted : (low : ℕ) (es : List Entry) (at : ℕ) (e : Entry) → at ≤ length es → EntriesRiseFrom low (insert es at e) → low ≤ rank e
 rises_inserted low [] zero e l up = up.0
 rises_inserted low [] (suc at) e l up = absurd (omega arith)
 rises_inserted low (x ∷ es) zero e l up = up.0
 rises_inserted low (x ∷ es) (suc at) e l up = let more = rises_inserted (rank x + 1) es at e (omega arith) up.1 in let first = up.0 in omega arith
 
-put_at : (low : ℕ) (es : List Entry) (at : ℕ) (e : Entry) → at ≤ length es → RisesFrom low (insert es at e) → inserted e es ≡ insert es at e
+put_at : (low : ℕ) (es : List Entry) (at : ℕ) (e : Entry) → at ≤ length es → EntriesRiseFrom low (insert es at e) → entry_inserted e es ≡ insert es at e
 put_at low [] zero e l up = refl
 put_at low [] (suc at) e l up = absurd (omega arith)
 put_at low (x ∷ es) zero e l up = put_ahead low e (x ∷ es) up
@@ -34,7 +34,7 @@ put_at low (x ∷ es) (suc at) e l up =
     let higher = rises_inserted (rank x + 1) es at e (omega arith) up.1 in
     inserted_later e x es (omega arith) ∙ ap (λ (l : List Entry). x ∷ l) (put_at (rank x + 1) es at e (omega arith) up.1)
 
-taken_at : (low : ℕ) (es : List Entry) (at : ℕ) (d : Entry) → at < length es → RisesFrom low es → removed (get_or es at d) es ≡ remove es at
+taken_at : (low : ℕ) (es : List Entry) (at : ℕ) (d : Entry) → at < length es → EntriesRiseFrom low es → removed (get_or es at d) es ≡ remove es at
 taken_at low [] at d l up = absurd (omega arith)
 taken_at low (x ∷ es) zero d l up = removed_there x x es refl
 taken_at low (x ∷ es) (suc at) d l up =
@@ -42,12 +42,12 @@ taken_at low (x ∷ es) (suc at) d l up =
     removed_later (get_or es at d) x es (omega arith) ∙ ap (λ (l : List Entry). x ∷ l) (taken_at (rank x + 1) es at d (omega arith) up.1)
 
 -- one in the place of another is put where that was
-rises_set : (low : ℕ) (es : List Entry) (at : ℕ) (e : Entry) → at < length es → RisesFrom low (set es at e) → low ≤ rank e
+rises_set : (low : ℕ) (es : List Entry) (at : ℕ) (e : Entry) → at < length es → EntriesRiseFrom low (set es at e) → low ≤ rank e
 rises_set low [] at e l up = absurd (omega arith)
 rises_set low (x ∷ es) zero e l up = up.0
 rises_set low (x ∷ es) (suc at) e l up = let more = rises_set (rank x + 1) es at e (omega arith) up.1 in let first = up.0 in omega arith
 
-put_over : (low : ℕ) (es : List Entry) (at : ℕ) (e : Entry) → at < length es → RisesFrom low (set es at e) → inserted e (remove es at) ≡ set es at e
+put_over : (low : ℕ) (es : List Entry) (at : ℕ) (e : Entry) → at < length es → EntriesRiseFrom low (set es at e) → entry_inserted e (remove es at) ≡ set es at e
 put_over low [] at e l up = absurd (omega arith)
 put_over low (x ∷ es) zero e l up = put_ahead low e es up
 put_over low (x ∷ es) (suc at) e l up =
@@ -55,13 +55,13 @@ put_over low (x ∷ es) (suc at) e l up =
     inserted_later e x (remove es at) (omega arith) ∙ ap (λ (l : List Entry). x ∷ l) (put_over (rank x + 1) es at e (omega arith) up.1)
 
 -- those that rise behind all others are put there
-put_behind : (low : ℕ) (es : List Entry) (e : Entry) → RisesFrom low (es ++ e ∷ []) → inserted e es ≡ es ++ e ∷ []
+put_behind : (low : ℕ) (es : List Entry) (e : Entry) → EntriesRiseFrom low (es ++ e ∷ []) → entry_inserted e es ≡ es ++ e ∷ []
 put_behind low [] e up = refl
 put_behind low (x ∷ es) e up =
     let higher = rises_middle (rank x + 1) es e [] up.1 in
     inserted_later e x es (omega arith) ∙ ap (λ (l : List Entry). x ∷ l) (put_behind (rank x + 1) es e up.1)
 
-front_rises : (low : ℕ) (es : List Entry) (e : Entry) (run : List Entry) → RisesFrom low (es ++ e ∷ run) → RisesFrom low (es ++ e ∷ [])
+front_rises : (low : ℕ) (es : List Entry) (e : Entry) (run : List Entry) → EntriesRiseFrom low (es ++ e ∷ run) → EntriesRiseFrom low (es ++ e ∷ [])
 front_rises low [] e run up = (up.0, tt)
 front_rises low (x ∷ es) e run up = (up.0, front_rises (rank x + 1) es e run up.1)
 
@@ -104,7 +104,7 @@ over n m k v w some less fit =
     spread a b v w more fit = omega arith
 
 rises_as : (low from : ℕ) (rows : List Row) → ((number value : ℕ) → low < number → from ≤ rank (number_key number, value)) → RowsRise low rows
-    → AllFit key_bytes (number_entries rows) → RisesFrom from (number_entries rows)
+    → AllFit key_bytes (number_entries rows) → EntriesRiseFrom from (number_entries rows)
 rises_as low from [] above rise fit = tt
 rises_as low from (row ∷ rows) above rise fit = (
   above row.number row.first rise.0,
@@ -149,7 +149,7 @@ row_out rows at row d l is rise fit =
 
 -- one put in
 pub row_in : (rows : List Row) (at : ℕ) (new : Row) → at ≤ length rows → RowsRise 0 (insert rows at new) → AllFit key_bytes (number_entries rows)
-    → FitsLeaf key_bytes (row_entry new) → inserted (row_entry new) (number_entries rows) ≡ number_entries (insert rows at new)
+    → FitsLeaf key_bytes (row_entry new) → entry_inserted (row_entry new) (number_entries rows) ≡ number_entries (insert rows at new)
 row_in rows at new l rise fit own =
     let es = number_entries rows in
     let same = entries_inserted rows at new l in
@@ -170,12 +170,12 @@ rows_behind rows more rise fit own =
 -- one in the place of another
 pub row_over : (rows : List Row) (at : ℕ) (row d new : Row) → at < length rows → row ≡ get_or rows at d → RowsRise 0 rows → RowsRise 0 (set rows at new)
     → AllFit key_bytes (number_entries rows) → FitsLeaf key_bytes (row_entry new)
-    → inserted (row_entry new) (removed (row_entry row) (number_entries rows)) ≡ number_entries (set rows at new)
+    → entry_inserted (row_entry new) (removed (row_entry row) (number_entries rows)) ≡ number_entries (set rows at new)
 row_over rows at row d new l is rise risen fit own =
     let es = number_entries rows in
     let same = map-set row_entry rows at new in
     let all : AllFit key_bytes (number_entries (set rows at new)) = subst (AllFit key_bytes) (sym same) (fit_set es at (row_entry new) fit own) in
-    ap (inserted (row_entry new)) (row_out rows at row d l is rise fit ∙ entries_removed rows at l)
+    ap (entry_inserted (row_entry new)) (row_out rows at row d l is rise fit ∙ entries_removed rows at l)
     ∙ put_over 0 es at (row_entry new) (omega (arith, l, length-entries rows)) (subst IsRising same (entries_rise (set rows at new) risen all)) ∙ sym same
 
 -- ENTRIES ONE AFTER ANOTHER
@@ -188,13 +188,14 @@ entries_next rows at d e run next l is so_far pushed =
 
 -- RUNS OF A CHANGE
 -- rows of numbers one after another
-ranged_rise : (first count from : ℕ) (rows : List Row) → ((value : ℕ) → from ≤ rank (number_key first, value)) → numbers_in rows ≡ range_with_len first count
-    → AllFit key_bytes (number_entries rows) → RisesFrom from (number_entries rows)
+ranged_rise : (first count from : ℕ) (rows : List Row) → ((value : ℕ) → from ≤ rank (number_key first, value)) → numbers_of_rows rows
+    ≡ range_with_len first count
+    → AllFit key_bytes (number_entries rows) → EntriesRiseFrom from (number_entries rows)
 ranged_rise first count from [] above is fit = tt
 ranged_rise first zero from (row ∷ rows) above is fit = cc
 ranged_rise first (suc count) from (row ∷ rows) above is fit =
     let here : row.number ≡ first = cc in
-    let later : numbers_in rows ≡ range_with_len (first + 1) count = cc in (
+    let later : numbers_of_rows rows ≡ range_with_len (first + 1) count = cc in (
       subst (λ (n : ℕ). from ≤ rank (number_key n, row.first)) (sym here) (above row.first),
       ranged_rise (first + 1) count (rank (row_entry row) + 1) rows
           (λ value. over row.number (first + 1) (256 ^ 28) row.first value (omega arith) (omega arith) fit.0.value) later fit.1,
@@ -216,7 +217,7 @@ module _ (was is more : List Row) (come : List Entry) (joined : is ≡ was ++ mo
   fit_more : AllFit key_bytes (number_entries more)
   fit_more = subst (AllFit key_bytes) come_more own
 
-  pub added_rise : (first count : ℕ) → numbers_in more ≡ range_with_len first count → IsRising come
+  pub added_rise : (first count : ℕ) → numbers_of_rows more ≡ range_with_len first count → IsRising come
   added_rise first count numbers = subst IsRising (sym come_more) (ranged_rise first count 0 more (λ value. omega arith) numbers fit_more)
 
   pub added_entries : (gone : List Entry) → gone ≡ [] → RowsRise 0 is → AllFit key_bytes (number_entries was)
@@ -253,5 +254,5 @@ module _ (was is : List Row) (place : ℕ) (d : Row) (gone come : List Entry) (l
       let same = entries_removed was place l in
       let fewer : AllFit key_bytes (number_entries left) = subst (AllFit key_bytes) (sym same)
       (fit_removed es place (omega (arith, l, length-entries was)) fit) in
-      (λ i. inserted_all (comes i) (removed_all (goes i) es)) ∙ ap (inserted (row_entry row)) (row_out was place (get_or was place d) d l refl rise fit)
+      (λ i. inserted_all (comes i) (removed_all (goes i) es)) ∙ ap (entry_inserted (row_entry row)) (row_out was place (get_or was place d) d l refl rise fit)
       ∙ row_in left to row there (subst (RowsRise 0) moved risen) fewer own_new.0 ∙ ap number_entries (sym moved)

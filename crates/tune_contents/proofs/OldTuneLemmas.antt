@@ -9,7 +9,7 @@ use Rattle.tune_store.specs.declared.layout.Layout.{Layout}
 use Rattle.tune_store.specs.declared.plans.Change.{Change}
 use Rattle.tune_store.specs.declared.plans.Change.TheVariants.{Add, Put, Take, Move, NewSet, AddPlace, CutPlace, DropSet, Upgrade}
 use Rattle.tune_store.specs.declared.tune.Tune.{Tune}
-use Rattle.tune_format.specs.Filed.{HoldsTuneAt, row_of, rows_of}
+use Rattle.tune_format.specs.Filed.{HoldsTuneAt, row_of_tune, rows_of_tunes}
 use Rattle.tune_format.specs.declared.rows.Row.{Row}
 use Rattle.tune_format.proofs.ChangeLemmas.{has_text, row_at_place}
 use Rattle.tune_format.proofs.TextLemmas.{rows_count, text_at}
@@ -39,12 +39,12 @@ module _ (s : Stand) (ahead : List Part) (tunes : List Tune) (rows : List Row) (
     abbrev there : HoldsTuneAt holds.texts tunes place
     there = text_at holds.texts tunes place holds.are_tunes l
 
-    its_row : (d : Row) → get_or rows place d ≡ row_of there.tune there.part
+    its_row : (d : Row) → get_or rows place d ≡ row_of_tune there.tune there.part
     its_row d =
         let found = row_at_place holds.texts tunes place there in
-        let front = rows_of there.front there.before in
-        let back = rows_of there.back there.after in
-        let mine = row_of there.tune there.part in
+        let front = rows_of_tunes there.front there.before in
+        let back = rows_of_tunes there.back there.after in
+        let mine = row_of_tune there.tune there.part in
         ap (λ (r : List Row). get_or r place d) (holds.listed ∙ found.0)
         ∙ ap (λ (n : ℕ). get_or (front ++ mine ∷ back) n d) (sym found.1) ∙ get_or-append_seam front mine back d
 

@@ -14,7 +14,7 @@ use Rattle.tune_format.specs.declared.rows.Row.{Row}
 use Rattle.tune_contents.specs.Claimed.{AreRows, RowsRise}
 use Rattle.tune_contents.specs.Holds.{label_in, labels_in}
 use Rattle.tune_contents.specs.Inside.ChangedRows.{AddsRow, AddsRows, PutsRow}
-use Rattle.tune_contents.specs.Inside.TuneRows.{IsRowAfter, numbers_in}
+use Rattle.tune_contents.specs.Inside.TuneRows.{IsRowAfter, numbers_of_rows}
 
 -- NUMBERS
 -- numbers rise strictly, and are above this one
@@ -28,32 +28,32 @@ record AreNumbers (layout : Layout) (numbers : List ℕ) : Type 0 where
   within : AllByRecursion (λ number. number ≤ greatest_number) numbers
   few : length numbers ≤ most_tunes layout
 
-numbers_rise : (low : ℕ) (rows : List Row) → RowsRise low rows → Rises low (numbers_in rows)
+numbers_rise : (low : ℕ) (rows : List Row) → RowsRise low rows → Rises low (numbers_of_rows rows)
 numbers_rise low [] rise = tt
 numbers_rise low (row ∷ rows) rise = (rise.0, numbers_rise row.number rows rise.1)
 
-rows_rise : (low : ℕ) (rows : List Row) → Rises low (numbers_in rows) → RowsRise low rows
+rows_rise : (low : ℕ) (rows : List Row) → Rises low (numbers_of_rows rows) → RowsRise low rows
 rows_rise low [] rise = tt
 rows_rise low (row ∷ rows) rise = (rise.0, rows_rise row.number rows rise.1)
 
 numbers_within : (rows : List Row) → AllByRecursion (λ row. row.number ≤ greatest_number) rows
-    → AllByRecursion (λ number. number ≤ greatest_number) (numbers_in rows)
+    → AllByRecursion (λ number. number ≤ greatest_number) (numbers_of_rows rows)
 numbers_within [] within = tt
 numbers_within (row ∷ rows) within = (within.0, numbers_within rows within.1)
 
-rows_within : (rows : List Row) → AllByRecursion (λ number. number ≤ greatest_number) (numbers_in rows)
+rows_within : (rows : List Row) → AllByRecursion (λ number. number ≤ greatest_number) (numbers_of_rows rows)
     → AllByRecursion (λ row. row.number ≤ greatest_number) rows
 rows_within [] within = tt
 rows_within (row ∷ rows) within = (within.0, rows_within rows within.1)
 
-are_numbers : {layout : Layout} → (rows : List Row) → AreRows layout rows → AreNumbers layout (numbers_in rows)
+are_numbers : {layout : Layout} → (rows : List Row) → AreRows layout rows → AreNumbers layout (numbers_of_rows rows)
 are_numbers rows are = record {
   rise = numbers_rise 0 rows are.rise;
   within = numbers_within rows are.numbers;
   few = omega (arith, are.few, length-map rows (λ (row : Row). row.number));
 }
 
-are_rows : {layout : Layout} → (rows : List Row) → AreNumbers layout (numbers_in rows) → AreRows layout rows
+are_rows : {layout : Layout} → (rows : List Row) → AreNumbers layout (numbers_of_rows rows) → AreRows layout rows
 are_rows rows are = record {
   rise = rows_rise 0 rows are.rise;
   numbers = rows_within rows are.within;
@@ -66,17 +66,17 @@ some_row = record { number = 0; revision = 0; first = 0; length = 0 }
 
 -- the number at a place is that of the label there
 number_there : (rows : List Row) (place number : ℕ) → ((d : Label) → (get_or (labels_in rows) place d).number ≡ number)
-    → get_or (numbers_in rows) place 0 ≡ number
+    → get_or (numbers_of_rows rows) place 0 ≡ number
 number_there rows place number named =
     get_or-map (λ (row : Row). row.number) rows place some_row
     ∙ ap (λ (label : Label). label.number) (sym (get_or-map label_in rows place some_row)) ∙ named (label_in some_row)
 
 -- its number is that of the row there
 pub rows_put : {layout : Layout} → (rows left : List Row) (place number : ℕ) → ((d : Label) → (get_or (labels_in rows) place d).number ≡ number)
-    → numbers_in left ≡ slice_set (numbers_in rows) place number → AreRows layout rows → AreRows layout left
+    → numbers_of_rows left ≡ slice_set (numbers_of_rows rows) place number → AreRows layout rows → AreRows layout left
 rows_put {layout} rows left place number named put are =
-    let same : numbers_in left ≡ numbers_in rows =
-    put ∙ ap (slice_set (numbers_in rows) place) (sym (number_there rows place number named)) ∙ set-get_or (numbers_in rows) place 0 in
+    let same : numbers_of_rows left ≡ numbers_of_rows rows =
+    put ∙ ap (slice_set (numbers_of_rows rows) place) (sym (number_there rows place number named)) ∙ set-get_or (numbers_of_rows rows) place 0 in
     are_rows left (subst (AreNumbers layout) (sym same) (are_numbers rows are))
 
 -- TUNES BEHIND THE OTHERS
@@ -99,7 +99,7 @@ within_on first count [] most within = within_from first count most
 within_on first count (number ∷ numbers) most within = (within.0, within_on first count numbers most within.1)
 
 numbers_below : (first : ℕ) (rows : List Row) → AllByRecursion (λ label. label.number < first) (labels_in rows)
-    → AllByRecursion (λ number. number < first) (numbers_in rows)
+    → AllByRecursion (λ number. number < first) (numbers_of_rows rows)
 numbers_below first [] below = tt
 numbers_below first (row ∷ rows) below = (below.0, numbers_below first rows below.1)
 
@@ -119,27 +119,29 @@ numbers_next numbers mid left first number count next is more so_far added =
 
 -- rows of numbers one after another, and one row more
 pub adds_next : (mid left : List Row) (first number count next : ℕ) → number ≡ first + count → next ≡ count + 1
-    → numbers_in mid ≡ range_with_len first count → AddsRow number mid left → numbers_in left ≡ range_with_len first next
+    → numbers_of_rows mid ≡ range_with_len first count → AddsRow number mid left → numbers_of_rows left ≡ range_with_len first next
 adds_next mid left first number count next is more named (row, added, its) =
-    numbers_next [] (numbers_in mid) (numbers_in left) first number count next is more named
-    (ap numbers_in added ∙ map-append (λ (r : Row). r.number) mid (row ∷ []) ∙ ap (λ n. numbers_in mid ++ n ∷ []) its)
+    numbers_next [] (numbers_of_rows mid) (numbers_of_rows left) first number count next is more named
+    (ap numbers_of_rows added ∙ map-append (λ (r : Row). r.number) mid (row ∷ []) ∙ ap (λ n. numbers_of_rows mid ++ n ∷ []) its)
 
 -- the numbers of rows with others behind them, and with one in the place of another
-pub numbers_added : (rows left : List Row) (first count : ℕ) → AddsRows first count rows left → numbers_in left ≡ numbers_in rows ++ range_with_len first count
+pub numbers_added : (rows left : List Row) (first count : ℕ) → AddsRows first count rows left → numbers_of_rows left ≡ numbers_of_rows rows
+    ++ range_with_len first count
 numbers_added rows left first count (more, added, named) =
-    ap numbers_in added ∙ map-append (λ (r : Row). r.number) rows more ∙ ap (λ l. numbers_in rows ++ l) named
+    ap numbers_of_rows added ∙ map-append (λ (r : Row). r.number) rows more ∙ ap (λ l. numbers_of_rows rows ++ l) named
 
-pub numbers_put : (rows left : List Row) (place number : ℕ) → PutsRow place number rows left → numbers_in left ≡ slice_set (numbers_in rows) place number
+pub numbers_put : (rows left : List Row) (place number : ℕ) → PutsRow place number rows left → numbers_of_rows left
+    ≡ slice_set (numbers_of_rows rows) place number
 numbers_put rows left place number (row, l, put, its) =
-    ap numbers_in put ∙ map-set (λ (r : Row). r.number) rows place row ∙ ap (slice_set (numbers_in rows) place) its
+    ap numbers_of_rows put ∙ map-set (λ (r : Row). r.number) rows place row ∙ ap (slice_set (numbers_of_rows rows) place) its
 
 -- their numbers are above all others
 pub rows_added : {layout : Layout} → (rows left : List Row) (first count : ℕ) → length (labels_in rows) + count ≤ most_tunes layout
     → first + count ≤ greatest_number + 1
     → AllByRecursion (λ label. label.number < first) (labels_in rows) → 0 < first
-    → numbers_in left ≡ numbers_in rows ++ range_with_len first count → AreRows layout rows → AreRows layout left
+    → numbers_of_rows left ≡ numbers_of_rows rows ++ range_with_len first count → AreRows layout rows → AreRows layout left
 rows_added {layout} rows left first count few most below some added are =
-    let numbers = numbers_in rows in
+    let numbers = numbers_of_rows rows in
     let is = are_numbers rows are in
     let all : AreNumbers layout (numbers ++ range_with_len first count) = record {
       rise = rises_on 0 first count numbers some (numbers_below first rows below) is.rise;
@@ -202,21 +204,21 @@ all_put P [] (suc at) new l its all = absurd (omega arith)
 all_put P (row ∷ rows) zero new l its all = (its, all)
 all_put P (row ∷ rows) (suc at) new l its all = (all.0, all_put P rows at new (omega arith) its all.1)
 
-numbers_labelled : (rows : List Row) → numbers_of (labels_in rows) ≡ numbers_in rows
+numbers_labelled : (rows : List Row) → numbers_of (labels_in rows) ≡ numbers_of_rows rows
 numbers_labelled [] = refl
 numbers_labelled (row ∷ rows) = ap (λ numbers. row.number ∷ numbers) (numbers_labelled rows)
 
 -- no row has a number that no label has
-pub none_labelled : (rows : List Row) (to : ℕ) → (Contains (numbers_of (labels_in rows)) to → ⊥) → Contains (numbers_in rows) to → ⊥
+pub none_labelled : (rows : List Row) (to : ℕ) → (Contains (numbers_of (labels_in rows)) to → ⊥) → Contains (numbers_of_rows rows) to → ⊥
 none_labelled rows to none = subst (λ numbers. Contains numbers to → ⊥) (numbers_labelled rows) none
 
-none_has : (to : ℕ) (rows : List Row) → (Contains (numbers_in rows) to → ⊥) → AllByRecursion (λ row. row.number ≡ to → ⊥) rows
+none_has : (to : ℕ) (rows : List Row) → (Contains (numbers_of_rows rows) to → ⊥) → AllByRecursion (λ row. row.number ≡ to → ⊥) rows
 none_has to [] none = tt
 none_has to (row ∷ rows) none = (λ e. none (0, omega arith, e), none_has to rows (λ (place, l, e). none (suc place, omega arith, e)))
 
 -- it goes where its new number belongs
 pub rows_moved : {layout : Layout} → (rows : List Row) (to place at : ℕ) (new : Row) → place < length rows → at ≤ length (remove rows place)
-    → (RowsRise 0 rows → IsRowAfter to (remove rows place) at) → new.number ≡ to → AreRows layout rows → (Contains (numbers_in rows) to → ⊥)
+    → (RowsRise 0 rows → IsRowAfter to (remove rows place) at) → new.number ≡ to → AreRows layout rows → (Contains (numbers_of_rows rows) to → ⊥)
     → 0 < to
     → to ≤ greatest_number → AreRows layout (insert (remove rows place) at new)
 rows_moved rows to place at new l within after is are none some most =

@@ -7,13 +7,13 @@ use Rattle.std.proofs.lemmas.List.Edits.{get_or-remove_above, get_or-remove_belo
 use Rattle.std.proofs.Math.Seq.{get_or-append_seam}
 use Rattle.tune_pages.specs.Stand.{Stand}
 use Rattle.tune_parts.specs.Parts.{Part}
-use Rattle.tune_store.specs.State.{RisesFrom}
+use Rattle.tune_store.specs.State.{NumbersRiseFrom}
 use Rattle.tune_store.specs.TuneSteps.{moved, moved_if}
 use Rattle.tune_store.specs.Inside.Lists.{IsPlaceAfter}
 use Rattle.tune_store.specs.declared.tune.Tune.{Tune}
 use Rattle.tune_store.proofs.PlaceLemmas.{tune_at-none}
 use Rattle.tune_store.proofs.InsertLemmas.{moves_by}
-use Rattle.tune_format.specs.Filed.{row_of, rows_of, HoldTunes, HoldsTuneAt}
+use Rattle.tune_format.specs.Filed.{row_of_tune, rows_of_tunes, HoldTunes, HoldsTuneAt}
 use Rattle.tune_format.specs.declared.rows.Row.{Row}
 use Rattle.tune_format.proofs.ChangeLemmas.{row_at_place, move_text}
 use Rattle.tune_format.proofs.TextLemmas.{tune_without, later_held, text_at, texts_cut, texts_inserted, rows_count, rows_cut, rows_inserted}
@@ -125,7 +125,7 @@ before_gone number rows place at l under after = record {
 -- ROWS OF TUNES
 -- they have the numbers of the tunes
 number_there : (tunes : List Tune) (texts : List Part) (n : ℕ) (d : Tune) (e : Row) → HoldTunes texts tunes → n < length tunes
-    → (get_or tunes n d).number ≡ (get_or (rows_of tunes texts) n e).number
+    → (get_or tunes n d).number ≡ (get_or (rows_of_tunes tunes texts) n e).number
 number_there [] texts n d e holds l = absurd (omega arith)
 number_there (tune ∷ tunes) [] n d e holds l = absurd (tune_without tune tunes holds)
 number_there (tune ∷ tunes) (part ∷ texts) zero d e holds l = refl
@@ -133,7 +133,7 @@ number_there (tune ∷ tunes) (part ∷ texts) (suc n) d e holds l =
     number_there tunes texts n d e (later_held part texts tune tunes holds) (omega (arith, l))
 
 -- and rise with them
-pub rows_rise : (low : ℕ) (tunes : List Tune) (texts : List Part) → HoldTunes texts tunes → RisesFrom low tunes → RowsRise low (rows_of tunes texts)
+pub rows_rise : (low : ℕ) (tunes : List Tune) (texts : List Part) → HoldTunes texts tunes → NumbersRiseFrom low tunes → RowsRise low (rows_of_tunes tunes texts)
 rows_rise low [] texts holds rises = tt
 rows_rise low (tune ∷ tunes) [] holds rises = tt
 rows_rise low (tune ∷ tunes) (part ∷ texts) holds rises = (rises.0, rows_rise tune.number tunes texts (later_held part texts tune tunes holds) rises.1)
@@ -143,7 +143,7 @@ some_row = record { number = 0; revision = 0; first = 0; length = 0 }
 
 -- a place among the rows is that place among the tunes
 place_there : (number : ℕ) (tunes : List Tune) (texts : List Part) (place : ℕ) → HoldTunes texts tunes → place ≤ length tunes
-    → IsRowAfter number (rows_of tunes texts) place → IsPlaceAfter number tunes place
+    → IsRowAfter number (rows_of_tunes tunes texts) place → IsPlaceAfter number tunes place
 place_there number tunes texts place holds l after =
     let many = rows_count tunes texts holds in
     record {
@@ -172,7 +172,7 @@ moves_none rows number to none = λ s ahead tunes rises holds.
 module _ (rows : List Row) (number to place at : ℕ) (row : Row) (l : place < length rows) (named : (d : Row) → (get_or rows place d).number ≡ number)
     (is : row ≡ get_or rows place row) (within : at ≤ length (remove rows place))
     (after : RowsRise 0 rows → IsRowAfter to (remove rows place) at)
-    (s : Stand) (ahead : List Part) (tunes : List Tune) (rises : RisesFrom 0 tunes) (holds : HoldsTunes s ahead tunes rows) where
+    (s : Stand) (ahead : List Part) (tunes : List Tune) (rises : NumbersRiseFrom 0 tunes) (holds : HoldsTunes s ahead tunes rows) where
   abbrev texts : List Part
   texts = holds.texts
 
@@ -188,12 +188,12 @@ module _ (rows : List Row) (number to place at : ℕ) (row : Row) (l : place < l
       ∙ ap (λ (n : ℕ). get_or (there.front ++ there.tune ∷ there.back) n there.tune) (sym there.is_place)
       ∙ get_or-append_seam there.front there.tune there.back there.tune)
 
-  is_row : row ≡ row_of there.tune there.part
+  is_row : row ≡ row_of_tune there.tune there.part
   is_row =
       let found = row_at_place texts tunes place there in
-      let front = rows_of there.front there.before in
-      let back = rows_of there.back there.after in
-      let mine = row_of there.tune there.part in
+      let front = rows_of_tunes there.front there.before in
+      let back = rows_of_tunes there.back there.after in
+      let mine = row_of_tune there.tune there.part in
       is ∙ ap (λ (r : List Row). get_or r place row) (holds.listed ∙ found.0)
       ∙ ap (λ (n : ℕ). get_or (front ++ mine ∷ back) n row) (sym found.1) ∙ get_or-append_seam front mine back row
 
@@ -205,7 +205,7 @@ module _ (rows : List Row) (number to place at : ℕ) (row : Row) (l : place < l
   abbrev fewer : HoldTunes (remove texts place) (remove tunes place)
   fewer = texts_cut texts tunes place holds.are_tunes
 
-  left_rows : remove rows place ≡ rows_of (remove tunes place) (remove texts place)
+  left_rows : remove rows place ≡ rows_of_tunes (remove tunes place) (remove texts place)
   left_rows = ap (λ (r : List Row). remove r place) holds.listed ∙ sym (rows_cut texts tunes place holds.are_tunes)
 
   goes : IsPlaceAfter to (remove tunes place) at
@@ -222,10 +222,10 @@ module _ (rows : List Row) (number to place at : ℕ) (row : Row) (l : place < l
   abbrev new_row : Row
   new_row = record { number = to; revision = row.revision; first = row.first; length = row.length }
 
-  new_row_is : new_row ≡ row_of new there.part
+  new_row_is : new_row ≡ row_of_tune new there.part
   new_row_is = ap (λ (r : Row). record { number = to; revision = r.revision; first = r.first; length = r.length }) is_row
 
-  left_is : insert (remove rows place) at new_row ≡ rows_of (insert (remove tunes place) at new) (insert (remove texts place) at there.part)
+  left_is : insert (remove rows place) at new_row ≡ rows_of_tunes (insert (remove tunes place) at new) (insert (remove texts place) at there.part)
   left_is =
       (λ i. insert (left_rows i) at (new_row_is i)) ∙ sym (rows_inserted (remove texts place) (remove tunes place) at there.part new fewer)
 

@@ -11,7 +11,7 @@ use Rattle.tune_pages.specs.Stand.{Stand}
 use Rattle.tune_pages.specs.declared.fault.Fault.{Fault}
 use Rattle.tune_pages.specs.declared.fault.Fault.TheVariants.{FileFull}
 use Rattle.tune_parts.specs.Parts.{Part}
-use Rattle.tune_search.specs.SearchPages.{HasFewLeaves, leaves_of, lists_of, most_entries}
+use Rattle.tune_search.specs.SearchPages.{HasFewLeaves, leaf_count, lists_of, most_entries}
 use Rattle.tune_search.specs.Searches.{HoldsSomeTexts, HoldsTexts, SearchParts, SearchRuns, SearchShape}
 use Rattle.tune_format.specs.RootOffsets.{number_bytes}
 use Rattle.tune_contents.specs.Inside.Searching.{HoldsTextsWith, IsSomeRun, PutsIn, PutsTexts, TakesOut, TakesTexts, search_pages}
@@ -54,7 +54,7 @@ more_pages : (n m : ℕ) → n ≤ m → pages_for n ≤ pages_for m
 more_pages n m le = let ceil = div_ceil_times m piece_room (omega arith) in at_most n (pages_for m) (omega (arith, le, ceil.0, ceil.1))
 
 -- the leaves and the lists of so many tunes
-pub few_pages : (shape : SearchShape) (texts : List Text) → HasFewLeaves shape texts → leaves_of shape + lists_of shape ≤ search_pages (length texts)
+pub few_pages : (shape : SearchShape) (texts : List Text) → HasFewLeaves shape texts → leaf_count shape + lists_of shape ≤ search_pages (length texts)
 few_pages shape texts few =
     let t : length shape.titles.pages ≤ most_titles * length texts = few.titles in
     let r : length shape.rhythms.pages ≤ length texts = few.rhythms in
@@ -67,10 +67,10 @@ few_pages shape texts few =
     omega arith
 
 abbrev pub Balance : Stand → Stand → SearchShape → SearchShape → Type 0
-Balance old new was is = free_pages old.used + leaves_of was ≡ free_pages new.used + leaves_of is
+Balance old new was is = free_pages old.used + leaf_count was ≡ free_pages new.used + leaf_count is
 
 -- a run found the file full, or a list did, or none
-pub full_for_come : (s0 s1 : Stand) (was is : SearchShape) (count : ℕ) → Balance s0 s1 was is → free_pages s1.used + leaves_of is < most_entries * count
+pub full_for_come : (s0 s1 : Stand) (was is : SearchShape) (count : ℕ) → Balance s0 s1 was is → free_pages s1.used + leaf_count is < most_entries * count
     → free_pages s0.used < search_pages count
 full_for_come s0 s1 was is count one full = omega arith
 

@@ -10,8 +10,8 @@ use Rattle.index_keys.proofs.Members.{contains_cases, contains_first, contains_l
 use Rattle.tune_search.specs.Searches.{SearchRuns}
 use Rattle.tune_search.specs.Searches as texts
 use Rattle.tune_store.specs.Plans.{changed_tunes}
-use Rattle.tune_store.specs.State.{RisesFrom, tune_at}
-use Rattle.tune_store.specs.TuneSteps.{inserted, moved, moved_if, numbered, without}
+use Rattle.tune_store.specs.State.{NumbersRiseFrom, tune_at}
+use Rattle.tune_store.specs.TuneSteps.{tune_inserted, moved, moved_if, numbered, without_tune}
 use Rattle.tune_store.specs.declared.plans.Change.{Change}
 use Rattle.tune_store.specs.declared.plans.Change.TheVariants.{Add, Put, Take, Move, NewSet, AddPlace, CutPlace, DropSet, Upgrade}
 use Rattle.tune_store.specs.declared.tune.Tune.{Tune}
@@ -87,17 +87,17 @@ put_place (tune ∷ tunes) (suc place) new l =
     (same_cons (text_of tune) (text_of new ∷ rest) (numbered_texts (set tunes place new)) (put_place tunes place new (omega arith)))
 
 -- one where its number belongs
-put_number : (new : Tune) (tunes : List Tune) → SameMembers (text_of new ∷ numbered_texts tunes) (numbered_texts (inserted new tunes))
+put_number : (new : Tune) (tunes : List Tune) → SameMembers (text_of new ∷ numbered_texts tunes) (numbered_texts (tune_inserted new tunes))
 put_number new [] = same_refl _
 put_number new (tune ∷ tunes) = elim (cases_Bool (ltb new.number tune.number)) [
   | inl before ↦ rw before (same_refl (text_of new ∷ text_of tune ∷ numbered_texts tunes))
   | inr behind ↦ rw behind
       (same_trans (text_of new ∷ text_of tune ∷ numbered_texts tunes) (text_of tune ∷ text_of new ∷ numbered_texts tunes)
-      (text_of tune ∷ numbered_texts (inserted new tunes)) (same_swap (text_of new) (text_of tune) (numbered_texts tunes))
-      (same_cons (text_of tune) (text_of new ∷ numbered_texts tunes) (numbered_texts (inserted new tunes)) (put_number new tunes)))
+      (text_of tune ∷ numbered_texts (tune_inserted new tunes)) (same_swap (text_of new) (text_of tune) (numbered_texts tunes))
+      (same_cons (text_of tune) (text_of new ∷ numbered_texts tunes) (numbered_texts (tune_inserted new tunes)) (put_number new tunes)))
 ]
 
-count_number : (new : Tune) (tunes : List Tune) → length (inserted new tunes) ≡ length tunes + 1
+count_number : (new : Tune) (tunes : List Tune) → length (tune_inserted new tunes) ≡ length tunes + 1
 count_number new [] = refl
 count_number new (tune ∷ tunes) = elim (cases_Bool (ltb new.number tune.number)) [
   | inl before ↦ rw before (omega arith)
@@ -105,7 +105,7 @@ count_number new (tune ∷ tunes) = elim (cases_Bool (ltb new.number tune.number
 ]
 
 -- its number is none of the others'
-low_text : (low : ℕ) (tunes : List Tune) (x : Text) → RisesFrom low tunes → Contains (numbered_texts tunes) x → low < x.0
+low_text : (low : ℕ) (tunes : List Tune) (x : Text) → NumbersRiseFrom low tunes → Contains (numbered_texts tunes) x → low < x.0
 low_text low [] x rises c = absurd (contains_none x c)
 low_text low (tune ∷ tunes) x rises c =
     let first = rises.0 in
@@ -114,7 +114,7 @@ low_text low (tune ∷ tunes) x rises c =
       | inr later ↦ let more = low_text tune.number tunes x rises.1 later in omega arith
     ]
 
-others_apart : (low : ℕ) (tunes : List Tune) (place : ℕ) (d : Tune) (x : Text) → RisesFrom low tunes → place < length tunes
+others_apart : (low : ℕ) (tunes : List Tune) (place : ℕ) (d : Tune) (x : Text) → NumbersRiseFrom low tunes → place < length tunes
     → Contains (numbered_texts (remove tunes place)) x → x.0 ≡ (get_or tunes place d).number → ⊥
 others_apart low [] place d x rises l c e = omega arith
 others_apart low (tune ∷ tunes) zero d x rises l c e = let more = low_text tune.number tunes x rises.1 c in omega arith
@@ -143,7 +143,7 @@ some_tune = record { number = 0; revision = 0; text = [] }
 is_text : (place : ℕ) (tunes : List Tune) (old : Text) (d : Tune) → IsTuneAt place tunes (Some old) → text_of (get_or tunes place d) ≡ old
 is_text place tunes old d at = let e = at.1 d in cc
 
-goes_out : (place : ℕ) (tunes : List Tune) (old : Text) (gone : Option SearchRuns) → RisesFrom 0 tunes → IsTuneAt place tunes (Some old)
+goes_out : (place : ℕ) (tunes : List Tune) (old : Text) (gone : Option SearchRuns) → NumbersRiseFrom 0 tunes → IsTuneAt place tunes (Some old)
     → AreRunsOut (Some old) gone → TakesOut gone (numbered_texts tunes) (numbered_texts (remove tunes place))
 goes_out place tunes old None rises at out = absurd out
 goes_out place tunes old (Some run) rises at out =
@@ -159,7 +159,7 @@ none_out tunes None out = refl
 none_out tunes (Some run) out = absurd out
 
 -- WHAT GOES
-pub takes_some : (change : Change) (tunes : List Tune) (old : Option Text) (away : Option SearchRuns) → RisesFrom 0 tunes → IsOldTune change tunes old
+pub takes_some : (change : Change) (tunes : List Tune) (old : Option Text) (away : Option SearchRuns) → NumbersRiseFrom 0 tunes → IsOldTune change tunes old
     → AreRunsOut old away → TakesSome away (numbered_texts tunes)
 takes_some change tunes None away rises is out = (numbered_texts tunes, none_out (numbered_texts tunes) away out)
 takes_some (Put place tune) tunes (Some old) away rises is out = (numbered_texts (remove tunes place), goes_out place tunes old away rises is out)
@@ -183,15 +183,15 @@ small_numbers (Add first new) rows accept = accept
 small_numbers change rows accept = tt
 
 -- their numbers are small
-pub small_texts : (first : ℕ) (new : List (List ℕ)) → first + length new ≤ 2 ^ 32 → AreSmall (texts.numbered first new)
+pub small_texts : (first : ℕ) (new : List (List ℕ)) → first + length new ≤ 2 ^ 32 → AreSmall (texts.texts_numbered first new)
 small_texts first [] most = λ x c. absurd (contains_none x c)
-small_texts first (text ∷ new) most = λ x c. elim (contains_cases (first, text) (texts.numbered (first + 1) new) x c) [
+small_texts first (text ∷ new) most = λ x c. elim (contains_cases (first, text) (texts.texts_numbered (first + 1) new) x c) [
   | inl is ↦ let n : first ≡ x.0 = ap (λ (t : Text). t.0) is in omega arith
   | inr later ↦ small_texts (first + 1) new (omega arith) x later
 ]
 
 -- new texts have the numbers of new tunes
-numbered_same : (first : ℕ) (new : List (List ℕ)) → texts.numbered first new ≡ numbered_texts (numbered first new)
+numbered_same : (first : ℕ) (new : List (List ℕ)) → texts.texts_numbered first new ≡ numbered_texts (numbered first new)
 numbered_same first [] = refl
 numbered_same first (text ∷ new) = ap (λ (l : List Text). (first, text) ∷ l) (numbered_same (first + 1) new)
 
@@ -212,21 +212,21 @@ no_change tunes gone come out puts = record {
 
 -- tunes come behind the others
 adds : (tunes : List Tune) (first : ℕ) (new : List (List ℕ)) (gone come : Option SearchRuns) → AreRunsOut None gone
-    → PutsIn come (texts.numbered first new) → ChangesTexts gone come (numbered_texts tunes) (numbered_texts (tunes ++ numbered first new))
+    → PutsIn come (texts.texts_numbered first new) → ChangesTexts gone come (numbered_texts tunes) (numbered_texts (tunes ++ numbered first new))
 adds tunes first new gone come out puts =
-    let all : numbered_texts tunes ++ texts.numbered first new ≡ numbered_texts (tunes ++ numbered first new) =
+    let all : numbered_texts tunes ++ texts.texts_numbered first new ≡ numbered_texts (tunes ++ numbered first new) =
     ap (λ (l : List Text). numbered_texts tunes ++ l) (numbered_same first new) ∙ sym (map-append text_of tunes (numbered first new)) in
     record {
       others = numbered_texts tunes;
-      more = texts.numbered first new;
+      more = texts.texts_numbered first new;
       takes = none_out (numbered_texts tunes) gone out;
       puts = puts;
-      same = subst (λ (l : List Text). SameMembers (numbered_texts tunes ++ texts.numbered first new) l) all (same_refl _);
+      same = subst (λ (l : List Text). SameMembers (numbered_texts tunes ++ texts.texts_numbered first new) l) all (same_refl _);
       count = ap length all;
     }
 
 -- one tune goes, and another one comes
-module _ (place : ℕ) (tunes : List Tune) (old : Text) (gone come : Option SearchRuns) (rises : RisesFrom 0 tunes) (at : IsTuneAt place tunes (Some old))
+module _ (place : ℕ) (tunes : List Tune) (old : Text) (gone come : Option SearchRuns) (rises : NumbersRiseFrom 0 tunes) (at : IsTuneAt place tunes (Some old))
     (out : AreRunsOut (Some old) gone) where
   abbrev others : List Text
   others = numbered_texts (remove tunes place)
@@ -267,9 +267,9 @@ module _ (place : ℕ) (tunes : List Tune) (old : Text) (gone come : Option Sear
       let its : tune.number ≡ number = ap (λ (t : Text). t.0) e ∙ is in
       let has : tune_at number tunes ≡ Some tune = tune_at-place 0 number tunes place d rises at.0 its in
       let new : Tune = record { number = to; revision = tune.revision; text = tune.text } in
-      let rest : without tune.number tunes ≡ remove tunes place = without-place 0 tune.number tunes place d rises at.0 refl in
-      let left = inserted new (remove tunes place) in
-      let same : moved number to tunes ≡ left = ap (moved_if to tunes) has ∙ ap (inserted new) rest in
+      let rest : without_tune tune.number tunes ≡ remove tunes place = without-place 0 tune.number tunes place d rises at.0 refl in
+      let left = tune_inserted new (remove tunes place) in
+      let same : moved number to tunes ≡ left = ap (moved_if to tunes) has ∙ ap (tune_inserted new) rest in
       let less = length-remove tunes place at.0 in
       let many : length left ≡ length tunes = count_number new (remove tunes place) ∙ less in
       let members : SameMembers ((to, old.1) ∷ others) (numbered_texts left) =
@@ -278,7 +278,7 @@ module _ (place : ℕ) (tunes : List Tune) (old : Text) (gone come : Option Sear
       (swaps (to, old.1) left puts members many)
 
 -- ALL CHANGES
-pub changes_texts : (change : Change) (tunes : List Tune) (old : Option Text) (away come : Option SearchRuns) → RisesFrom 0 tunes
+pub changes_texts : (change : Change) (tunes : List Tune) (old : Option Text) (away come : Option SearchRuns) → NumbersRiseFrom 0 tunes
     → IsOldTune change tunes old → AreRunsOut old away → PutsIn come (coming change old)
     → ChangesTexts away come (numbered_texts tunes) (numbered_texts (changed_tunes change tunes))
 changes_texts (Add first new) tunes None away come rises is out puts = adds tunes first new.items away come out puts

@@ -13,7 +13,7 @@ use Rattle.tune_pages.proofs.FreePages.{AreSized, chain_count}
 use Rattle.std.proofs.lemmas.Bool.Decides.{nat_tests}
 use Rattle.abc_fields.specs.Limits.{most_titles}
 use Rattle.index_keys.specs.Entries.{Entry}
-use Rattle.tune_index.specs.ListedLeaves.{shown}
+use Rattle.tune_index.specs.ListedLeaves.{stand_of_pages}
 use Rattle.tune_index.proofs.Puts.{leaves_within}
 use Rattle.tune_index.proofs.Storing.{length-listed}
 use Rattle.tune_parts.specs.Parts.{Part, IsPart, trails, root_and_trails, HoldsParts}
@@ -27,7 +27,7 @@ use Rattle.tune_search.proofs.AmongLemmas.{leaves_on_pages}
 use Rattle.tune_search.proofs.FewEntries.{few_by_incipit, few_by_rhythm, few_by_scale, few_by_title}
 use Rattle.tune_sets.specs.Names.{is_good_name}
 use Rattle.tune_format.proofs.TextLemmas.{rows_count}
-use Rattle.tune_sets.specs.SetBytes.{written_sets, written_set, written_numbers}
+use Rattle.tune_sets.specs.SetBytes.{written_sets, stored_set, written_numbers}
 use Rattle.tune_sets.specs.Sets.{IsTuneSet, AreSetLists}
 use Rattle.tune_sets.specs.declared.set_lists.TuneSet.{TuneSet}
 use Rattle.tune_sets.proofs.ByteLemmas.{length-written_numbers}
@@ -35,10 +35,10 @@ use Rattle.tune_store.specs.Limits.{longest_text, most_tunes, notes_of}
 use Rattle.tune_store.specs.State.{State, IsTune, IsTunes, IsState}
 use Rattle.tune_store.specs.declared.layout.Layout.{Layout}
 use Rattle.tune_store.specs.declared.tune.Tune.{Tune}
-use Rattle.tune_format.specs.Filed.{AreChains, Filed, HoldTunes, archive_parts, numbered_texts, rows_of}
+use Rattle.tune_format.specs.Filed.{AreChains, Filed, HoldTunes, archive_parts, numbered_texts, rows_of_tunes}
 use Rattle.tune_format.specs.Searched.{AreSearchIndexes}
 use Rattle.tune_format.specs.RootOffsets.{number_bytes, revision_bytes}
-use Rattle.tune_format.specs.Written.{number_entries, written_tune}
+use Rattle.tune_format.specs.Written.{number_entries, stored_tune}
 use Rattle.tune_contents.specs.Holds.{HoldsContents}
 use Rattle.tune_contents.specs.Inside.Indexed.{index_pages}
 use Rattle.tune_contents.specs.Inside.Searching.{search_pages}
@@ -100,12 +100,12 @@ pub times_count : (pages count most many : ℕ) → pages ≤ most * count → c
 times_count pages count most many le few = let more = product_le count many most few in omega (arith, le, more)
 
 tunes_count : (layout : Layout) (tunes : List Tune) → AllByRecursion (IsTune layout) tunes
-    → chain_pages (map written_tune tunes) ≤ most_tune_pages layout * length tunes
+    → chain_pages (map stored_tune tunes) ≤ most_tune_pages layout * length tunes
 tunes_count layout [] are = omega arith
 tunes_count layout (tune ∷ tunes) are =
-    let size : length (written_tune tune) ≡ length tune.text + revision_bytes = omega arith in
+    let size : length (stored_tune tune) ≡ length tune.text + revision_bytes = omega arith in
     let here = text_count layout tune.text are.0.fits in
-    let same : pages_for (length (written_tune tune)) ≡ tune_pages tune.text = ap pages_for size in
+    let same : pages_for (length (stored_tune tune)) ≡ tune_pages tune.text = ap pages_for size in
     let more = tunes_count layout tunes are.1 in
     omega (arith, here, same, more)
 
@@ -113,7 +113,7 @@ tunes_count layout (tune ∷ tunes) are =
 good_short : (name : List ℕ) → is_good_name name ≡ true → length name ≤ 40
 good_short name good = grind (arith, nat_tests)
 
-set_size : (set : TuneSet) → IsTuneSet set → length (written_set set) ≤ 843
+set_size : (set : TuneSet) → IsTuneSet set → length (stored_set set) ≤ 843
 set_size set is =
     let numbers = length-written_numbers set.numbers in
     let short = good_short set.name is.name in
@@ -124,7 +124,7 @@ sets_size [] are = omega arith
 sets_size (set ∷ sets) are =
     let here = set_size set are.0 in
     let more = sets_size sets are.1 in
-    omega (arith, here, more, length-append (written_set set) (written_sets sets))
+    omega (arith, here, more, length-append (stored_set set) (written_sets sets))
 
 pub sets_count : (sets : List TuneSet) → AreSetLists sets → sets_pages sets ≤ most_sets_pages
 sets_count sets are = at_most (length (written_sets sets)) most_sets_pages (omega (arith, sets_size sets are.each, are.count))
@@ -134,11 +134,11 @@ sets_count sets are = at_most (length (written_sets sets)) most_sets_pages (omeg
 leaves_count : (width : ℕ) (pages : List (List ℕ)) (parts : IndexParts) (entries : List Entry) → AllByRecursion (IsPart pages) parts.leaves
     → HoldsIndex width parts entries → (length (trails parts.leaves) ≡ length parts.leaves) × (length parts.leaves ≤ length entries)
 leaves_count width pages parts entries stand holds =
-    let on = leaves_on_pages width (shown pages) parts.leaves holds.leaves stand in
+    let on = leaves_on_pages width (stand_of_pages pages) parts.leaves holds.leaves stand in
     let firsts = map (λ (part : Part). part.first) parts.leaves in
     let many : length firsts ≡ length parts.leaves = length-map parts.leaves (λ (part : Part). part.first) in
     let alone = ap (λ (l : List ℕ). length l) on.alone in
-    let within = leaves_within width (shown pages) firsts on.form in
+    let within = leaves_within width (stand_of_pages pages) firsts on.form in
     let same = ap (λ (l : List Entry). length l) (on.entries ∙ holds.hold) in
     (omega (arith, alone, many), omega (arith, many, within, same))
 
@@ -199,11 +199,11 @@ module _ (pages : List (List ℕ)) (sized : AreSized pages) (part : Part) (kind 
   trail_count bytes holds = chain_count pages part.first part.trail part.bytes sized (its_chain pages part kind is)
       ∙ ap (λ (l : List ℕ). pages_for (length l)) holds
 
-  pub tune_few : (tune : Tune) → part.bytes ≡ written_tune tune → length tune.text ≤ longest_text layout → length part.trail ≤ most_tune_pages layout
+  pub tune_few : (tune : Tune) → part.bytes ≡ stored_tune tune → length tune.text ≤ longest_text layout → length part.trail ≤ most_tune_pages layout
   tune_few tune holds fits =
-      let size : length (written_tune tune) ≡ length tune.text + revision_bytes = omega arith in
-      let same : pages_for (length (written_tune tune)) ≡ tune_pages tune.text = ap pages_for size in
-      omega (arith, trail_count (written_tune tune) holds, same, text_count layout tune.text fits)
+      let size : length (stored_tune tune) ≡ length tune.text + revision_bytes = omega arith in
+      let same : pages_for (length (stored_tune tune)) ≡ tune_pages tune.text = ap pages_for size in
+      omega (arith, trail_count (stored_tune tune) holds, same, text_count layout tune.text fits)
 
   pub sets_few : (sets : List TuneSet) → part.bytes ≡ written_sets sets → AreSetLists sets → length part.trail ≤ most_sets_pages
   sets_few sets holds are = omega (arith, trail_count (written_sets sets) holds, sets_count sets are)
@@ -216,7 +216,7 @@ texts_count : (pages : List (List ℕ)) (layout : Layout) (texts : List Part) (t
 texts_count pages layout texts tunes sized stand are each few =
     let all = times_count _ (length tunes) _ _ (tunes_count layout tunes each) few in
     let trails = trails_count pages texts sized are.are_chains stand in
-    let same : chain_pages (bytes_of texts) ≡ chain_pages (map written_tune tunes) = ap chain_pages are.hold in
+    let same : chain_pages (bytes_of texts) ≡ chain_pages (map stored_tune tunes) = ap chain_pages are.hold in
     omega (arith, all, trails, same)
 
 -- all of it
@@ -247,7 +247,7 @@ filed_count limits layout pages tunes sets filed sized within are =
     let stand = filed.parts.stand in
     let after_numbers = all_right (IsPart pages) n (q ++ behind) stand in
     let after_searches = all_right (IsPart pages) q behind after_numbers in
-    let rows = rows_of tunes filed.texts in
+    let rows = rows_of_tunes tunes filed.texts in
     let many : length (number_entries rows) ≡ length tunes = length-map rows _ ∙ rows_count tunes filed.texts filed.are_tunes in
     let numbers = index_count key_bytes pages filed.numbers (number_entries rows) (length tunes) sized
     (all_left (IsPart pages) n (q ++ behind) stand) filed.are_numbers (omega (arith, many)) in

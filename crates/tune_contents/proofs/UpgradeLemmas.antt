@@ -16,7 +16,7 @@ use Rattle.tune_pages.specs.declared.fault.Fault.{Fault}
 use Rattle.tune_parts.specs.Parts.{Part}
 use Rattle.tune_search.specs.IncipitRuns.{AreIncipitsOf, GathersIncipits, HoldsIncipits, NumbersRise}
 use Rattle.tune_search.specs.IndexParts.{KeepsIndex, parts_of_index}
-use Rattle.tune_search.specs.SearchPages.{AreListed, HasFewLeaves, firsts_in, leaves_of, lists_of}
+use Rattle.tune_search.specs.SearchPages.{AreListed, HasFewLeaves, firsts_in, leaf_count, lists_of}
 use Rattle.tune_search.specs.Searches.{HoldsTexts, SearchParts, SearchShape, key_bytes}
 use Rattle.tune_sets.specs.SetBytes.{written_sets}
 use Rattle.tune_sets.specs.declared.set_lists.TuneSet.{TuneSet}
@@ -26,7 +26,7 @@ use Rattle.tune_store.specs.TuneSteps.{upgraded_state}
 use Rattle.tune_store.specs.declared.layout.Layout.{Layout}
 use Rattle.tune_store.specs.declared.layout.Layout.TheVariants.{One, Two}
 use Rattle.tune_store.specs.declared.tune.Tune.{Tune}
-use Rattle.tune_format.specs.Filed.{archive_parts, numbered_texts, rows_of}
+use Rattle.tune_format.specs.Filed.{archive_parts, numbered_texts, rows_of_tunes}
 use Rattle.tune_format.specs.Written.{IsRoot, number_entries}
 use Rattle.tune_format.specs.declared.root.Firsts.{Firsts}
 use Rattle.tune_format.specs.declared.rows.Row.{Row}
@@ -35,7 +35,7 @@ use Rattle.tune_contents.specs.Holds.{HoldsContents, HoldsMemory, HoldsSomeState
 use Rattle.tune_contents.specs.Inside.Changes.{HoldsTunesWithin}
 use Rattle.tune_contents.specs.Inside.Indexed.{StandsAround, keeps_of}
 use Rattle.tune_contents.specs.Inside.Laying.{HoldsTunes, LaysRoot}
-use Rattle.tune_contents.specs.Inside.TuneRows.{numbers_in}
+use Rattle.tune_contents.specs.Inside.TuneRows.{numbers_of_rows}
 use Rattle.tune_contents.specs.Inside.Searching.{IsTuneAt, search_pages}
 use Rattle.tune_contents.specs.Inside.Upgrading.{AreOfTunes, GathersTo, LengthensTexts}
 use Rattle.tune_contents.specs.Most.{most_part_pages}
@@ -54,18 +54,18 @@ Text = ℕ × List ℕ
 
 -- NUMBERS
 -- texts with the numbers of rows rise as these do
-numbers_rise : (low least : ℕ) (rows : List Row) (texts : List Text) → map (λ (text : Text). text.0) texts ≡ numbers_in rows → least ≤ low + 1
+numbers_rise : (low least : ℕ) (rows : List Row) (texts : List Text) → map (λ (text : Text). text.0) texts ≡ numbers_of_rows rows → least ≤ low + 1
     → RowsRise low rows → NumbersRise least texts
 numbers_rise low least rows [] same le rises = tt
 numbers_rise low least [] (text ∷ texts) same le rises = (let no : ⊥ = cc in absurd no)
 numbers_rise low least (row ∷ rows) (text ∷ texts) same le rises =
     let first : text.0 ≡ row.number = cc in
-    let rest : map (λ (t : Text). t.0) texts ≡ numbers_in rows = cc in
+    let rest : map (λ (t : Text). t.0) texts ≡ numbers_of_rows rows = cc in
     let above = rises.0 in
     (omega (arith, first, above, le), numbers_rise row.number (text.0 + 1) rows texts rest (omega (arith, first)) rises.1)
 
 -- and have 32 bits as they have
-numbers_small : (rows : List Row) (texts : List Text) → map (λ (text : Text). text.0) texts ≡ numbers_in rows
+numbers_small : (rows : List Row) (texts : List Text) → map (λ (text : Text). text.0) texts ≡ numbers_of_rows rows
     → AllByRecursion (λ row. row.number ≤ greatest_number) rows → AreSmall texts
 numbers_small rows [] same below = λ one at. absurd (contains_none one at)
 numbers_small [] (text ∷ texts) same below = (let no : ⊥ = cc in absurd no)
@@ -76,7 +76,7 @@ numbers_small (row ∷ rows) (text ∷ texts) same below = λ one at. elim (cont
       let least = below.0 in
       omega (arith, first, its, least)
   | inr later ↦
-      let rest : map (λ (t : Text). t.0) texts ≡ numbers_in rows = cc in
+      let rest : map (λ (t : Text). t.0) texts ≡ numbers_of_rows rows = cc in
       numbers_small rows texts rest below.1 one later
 ]
 
@@ -100,13 +100,13 @@ module _ (Honest Then : Type 0) (layout : Layout) (s now : Stand) (rows : List R
   its = ((get_or rows place some_row).number, text)
 
   -- the numbers of the rows in front, and this one
-  numbers_then : map (λ (t : Text). t.0) (so.texts ++ its ∷ []) ++ numbers_in (drop (place + 1) rows) ≡ numbers_in rows
+  numbers_then : map (λ (t : Text). t.0) (so.texts ++ its ∷ []) ++ numbers_of_rows (drop (place + 1) rows) ≡ numbers_of_rows rows
   numbers_then =
-      let rest : numbers_in (drop place rows) ≡ its.0 ∷ numbers_in (drop (place + 1) rows) = ap numbers_in (list_at rows place some_row l) in
+      let rest : numbers_of_rows (drop place rows) ≡ its.0 ∷ numbers_of_rows (drop (place + 1) rows) = ap numbers_of_rows (list_at rows place some_row l) in
       let front : map (λ (t : Text). t.0) (so.texts ++ its ∷ []) ≡ map (λ (t : Text). t.0) so.texts ++ its.0 ∷ [] =
       map-append (λ (t : Text). t.0) so.texts (its ∷ []) in
-      ap (λ (l : List ℕ). l ++ numbers_in (drop (place + 1) rows)) front
-      ∙ append_assoc (map (λ (t : Text). t.0) so.texts) (its.0 ∷ []) (numbers_in (drop (place + 1) rows))
+      ap (λ (l : List ℕ). l ++ numbers_of_rows (drop (place + 1) rows)) front
+      ∙ append_assoc (map (λ (t : Text). t.0) so.texts) (its.0 ∷ []) (numbers_of_rows (drop (place + 1) rows))
       ∙ ap (λ (l : List ℕ). map (λ (t : Text). t.0) so.texts ++ l) (sym rest) ∙ so.numbers
 
   -- the text is that of the tune at the place
@@ -142,10 +142,10 @@ module _ (Honest : Type 0) (layout : Layout) (s : Stand) (rows : List Row) (plac
     (are : AreRows layout rows) (so : GathersTo Honest layout s rows place was)
     (orders : (tunes : List Text) → NumbersRise 0 tunes → AreSmall tunes → GathersIncipits tunes was → AreIncipitsOf tunes is) where
   -- the texts have the numbers of all rows
-  numbers_all : map (λ (t : Text). t.0) so.texts ≡ numbers_in rows
+  numbers_all : map (λ (t : Text). t.0) so.texts ≡ numbers_of_rows rows
   numbers_all =
       sym (append-nil (map (λ (t : Text). t.0) so.texts))
-      ∙ ap (λ (l : List ℕ). map (λ (t : Text). t.0) so.texts ++ l) (sym (ap numbers_in (drop_of_length-le rows end))) ∙ so.numbers
+      ∙ ap (λ (l : List ℕ). map (λ (t : Text). t.0) so.texts ++ l) (sym (ap numbers_of_rows (drop_of_length-le rows end))) ∙ so.numbers
 
   -- so that their entries may be put in order
   pub texts_ordered : AreIncipitsOf so.texts is
@@ -217,13 +217,13 @@ at_most_more (Err fault) old new n m le takes = λ e. (let lt = takes e in omega
 
 -- the leaves that there are then and their lists are enough for all that was taken
 pub longer_takes : (s mid new : Stand) (was longer : SearchShape) (texts : List Text) → HasFewLeaves longer texts
-    → free_pages s.used + leaves_of was ≡ free_pages mid.used + leaves_of longer → free_pages mid.used ≤ free_pages new.used + lists_of longer
+    → free_pages s.used + leaf_count was ≡ free_pages mid.used + leaf_count longer → free_pages mid.used ≤ free_pages new.used + lists_of longer
     → free_pages s.used ≤ free_pages new.used + search_pages (length texts)
 longer_takes s mid new was longer texts few balance took = let most = few_pages longer texts few in omega arith
 
 -- where the lists found the file full, too few were free at first
 pub longer_full : (s mid : Stand) (was longer : SearchShape) (texts : List Text) → HasFewLeaves longer texts
-    → free_pages s.used + leaves_of was ≡ free_pages mid.used + leaves_of longer → free_pages mid.used < lists_of longer
+    → free_pages s.used + leaf_count was ≡ free_pages mid.used + leaf_count longer → free_pages mid.used < lists_of longer
     → free_pages s.used < search_pages (length texts)
 longer_full s mid was longer texts few balance full = let most = few_pages longer texts few in omega arith
 
@@ -277,7 +277,7 @@ upgraded s mid new c left shape run one copied are lengthens root kept state is 
       searches = longer.0;
       texts = filed.texts;
       holds = root.parts (archive_parts filed.numbers longer.0 filed.set_lists filed.texts) longer.1.holds;
-      keeps_numbers = subst (λ (x : Shape). KeepsIndex key_bytes x filed.numbers (number_entries (rows_of state.tunes filed.texts)))
+      keeps_numbers = subst (λ (x : Shape). KeepsIndex key_bytes x filed.numbers (number_entries (rows_of_tunes state.tunes filed.texts)))
           (sym kept.numbers) h.numbers;
       keeps_searches = record { titles = longer.1.titles; rhythms = longer.1.rhythms; scales = longer.1.scales; incipits = longer.1.incipits };
       are_tunes = filed.are_tunes;

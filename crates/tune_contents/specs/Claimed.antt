@@ -10,7 +10,7 @@ use Rattle.tune_store.specs.State.{IsState}
 use Rattle.tune_store.specs.declared.layout.Layout.{Layout}
 use Rattle.tune_store.specs.declared.tune.Tune.{Tune}
 use Rattle.tune_format.specs.Filed.{Filed, archive_parts, firsts_of, numbered_texts}
-use Rattle.tune_format.specs.Filed.{rows_of}
+use Rattle.tune_format.specs.Filed.{rows_of_tunes}
 use Rattle.tune_format.specs.Written.{number_entries}
 use Rattle.tune_format.specs.declared.rows.Row.{Row}
 use Rattle.tune_contents.specs.Holds.{KeepsTexts}
@@ -41,9 +41,9 @@ pub record IsClaimed (pages : List (List ℕ)) (contents : Contents) (claimed : 
   })
   pub marks : ClaimsParts pages claimed
       (archive_parts filed.numbers filed.searches filed.set_lists filed.texts)
-  pub listed : contents.rows.items ≡ rows_of tunes filed.texts
+  pub listed : contents.rows.items ≡ rows_of_tunes tunes filed.texts
   pub numbers : KeepsIndex key_bytes contents.numbers filed.numbers
-      (number_entries (rows_of tunes filed.texts))
+      (number_entries (rows_of_tunes tunes filed.texts))
   pub numbers_listed : contents.numbers.listed ≡ true
   pub searches : KeepsTexts contents.searches filed.searches (numbered_texts tunes)
   pub searches_listed : AreListed contents.searches

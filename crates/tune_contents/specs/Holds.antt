@@ -17,7 +17,7 @@ use Rattle.tune_store.specs.declared.plans.Change.{Change}
 use Rattle.tune_store.specs.Plans.{changed}
 use Rattle.tune_titles.specs.TitleAndRhythmKeys.{rhythm_keys, title_keys}
 use Rattle.tune_format.specs.Filed.{Filed, archive_parts, firsts_of, numbered_texts}
-use Rattle.tune_format.specs.Filed.{rows_of}
+use Rattle.tune_format.specs.Filed.{rows_of_tunes}
 use Rattle.tune_format.specs.Written.{number_entries}
 use Rattle.tune_format.specs.declared.root.Firsts.{Firsts}
 use Rattle.tune_format.specs.declared.rows.Row.{Row}
@@ -69,9 +69,9 @@ pub record HoldsMemory (s : Stand) (memory : Memory) (state : State) : Type 0 wh
   pub filed : Filed state.layout s.pages state.tunes state.sets
   pub holds : HoldsParts s
       (archive_parts filed.numbers filed.searches filed.set_lists filed.texts)
-  pub listed : memory.rows ≡ rows_of state.tunes filed.texts
+  pub listed : memory.rows ≡ rows_of_tunes state.tunes filed.texts
   pub numbers : KeepsIndex key_bytes memory.numbers filed.numbers
-      (number_entries (rows_of state.tunes filed.texts))
+      (number_entries (rows_of_tunes state.tunes filed.texts))
   pub numbers_listed : memory.numbers.listed ≡ true
   pub searches : KeepsTexts memory.searches filed.searches (numbered_texts state.tunes)
   pub searches_listed : AreListed memory.searches

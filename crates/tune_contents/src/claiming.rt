@@ -10,7 +10,7 @@ ghost use Rattle.tune_parts.specs.Parts.{Part};
 ghost use Rattle.tune_search.specs.LoadedParts.{HasClaimed};
 ghost use Rattle.tune_search.specs.SearchClaims.{AreAllKnown};
 ghost use Rattle.tune_search.specs.Searches.{SearchRuns, SearchShape};
-ghost use Rattle.tune_search.specs.IncipitForms.{notes_in};
+ghost use Rattle.tune_search.specs.IncipitForms.{note_count};
 ghost use Rattle.tune_search.specs.Loaded.{runs_in, search_with};
 ghost use Rattle.tune_sets.specs.Sets.{AreSetLists};
 ghost use Rattle.tune_sets.specs.SetBytes.{written_sets};
@@ -31,7 +31,7 @@ ghost use Rattle.tune_contents.specs.Inside.ClaimedParts.{HoldsTune, HoldsTuneOf
 ghost use Rattle.tune_contents.specs.Inside.ClaimedParts.{IsPartThere, IsSearchThere, IsStateThere};
 ghost use Rattle.tune_contents.specs.Inside.ClaimedParts.{IsTuneChain, ListsClaimed, TunesClaimed};
 ghost use Rattle.tune_contents.specs.Inside.ClaimedParts.{tune_site};
-ghost use Rattle.tune_contents.specs.Inside.TuneRows.{numbers_in};
+ghost use Rattle.tune_contents.specs.Inside.TuneRows.{numbers_of_rows};
 ghost use Rattle.tune_contents.specs.declared.contents.Contents.{Contents};
 
 use crate::contents::Contents;
@@ -224,7 +224,7 @@ fn claim_searches<D: Disk>(
     firsts: SearchFirsts,
     most: u32,
 ) -> Result<(SearchIndexes, SearchEntries), ClaimFault>
-    ensures notes { IfOk result (λ loaded. loaded.0.notes ≡ notes_in notes) }
+    ensures notes { IfOk result (λ loaded. loaded.0.notes ≡ note_count notes) }
     ensures claims { IfOk result (λ loaded. D.honest opening.new.disk → (front : List Part)
         → HasClaimed opening.old.pages opening.old.claimed front
         → ClaimsSearch most (pages_claimed opening.old.pages opening.new.claimed) front firsts
@@ -232,7 +232,7 @@ fn claim_searches<D: Disk>(
     ensures damaged { IfErr result (λ fault. D.honest opening.new.disk → (front : List Part)
         → HasClaimed opening.old.pages opening.old.claimed front
         → IsChainFault fault
-        (IsSearchThere (notes_in notes) most opening.old.pages front firsts)) }
+        (IsSearchThere (note_count notes) most opening.old.pages front firsts)) }
     ensures looks { LooksOpening D.honest D.failures D.state result opening.old opening.new }
 {
     // For the proof.
@@ -355,11 +355,11 @@ fn search_claims(
     entries: SearchEntries,
 ) -> Result<SearchClaims, ClaimFault>
     requires { RowsRise 0 rows.now }
-    ensures numbers { IfOk result (λ claims. claims.numbers ≡ numbers_in rows.now) }
+    ensures numbers { IfOk result (λ claims. claims.numbers ≡ numbers_of_rows rows.now) }
     ensures runs { IfOk result (λ claims. claims.runs ≡ runs_in entries) }
-    ensures known { IfOk result (λ _. AreAllKnown (numbers_in rows.now) (runs_in entries)) }
+    ensures known { IfOk result (λ _. AreAllKnown (numbers_of_rows rows.now) (runs_in entries)) }
     ensures damaged { IfErr result (λ fault. IsChainFault fault (HaveFew (runs_in entries)
-        × AreAllKnown (numbers_in rows.now) (runs_in entries))) }
+        × AreAllKnown (numbers_of_rows rows.now) (runs_in entries))) }
     ensures err { IfErr result (λ fault. fault ≢ ClaimFault.Device) }
 {
     if !have_few(&entries) {
@@ -400,7 +400,7 @@ fn is_short(count: usize) -> bool
 
 // The numbers of rows.
 fn numbers_of(alloc: Global, rows: &[Row]) -> Result<Vec<u32>, AllocError>
-    ensures { IfOk result (λ numbers. numbers.items ≡ numbers_in rows.now) }
+    ensures { IfOk result (λ numbers. numbers.items ≡ numbers_of_rows rows.now) }
 {
     let mut numbers = Vec::with_capacity(alloc, rows.len())?;
     for row in rows {
@@ -420,7 +420,7 @@ fn claim_rows<D: Disk>(
 ) -> Result<(), ClaimFault>
     requires { RowsRise 0 rows.old }
     ensures same { OnOk result (number_entries rows.new ≡ number_entries rows.old) }
-    ensures known { OnOk result (AreAllKnown (numbers_in rows.old) (runs_in entries)) }
+    ensures known { OnOk result (AreAllKnown (numbers_of_rows rows.old) (runs_in entries)) }
     ensures claimed { OnOk result (D.honest opening.new.disk → (front : List Part)
         → HasClaimed opening.old.pages opening.old.claimed front
         → TunesClaimed (tune_site layout opening.old.pages front (runs_in entries))
@@ -444,7 +444,7 @@ fn claim_tunes<D: Disk>(
     rows: &mut [Row],
     claims: &SearchClaims,
 ) -> Result<(), ClaimFault>
-    requires { claims.now.numbers ≡ numbers_in rows.old }
+    requires { claims.now.numbers ≡ numbers_of_rows rows.old }
     ensures same { OnOk result (number_entries rows.new ≡ number_entries rows.old) }
     ensures claimed { OnOk result (D.honest opening.new.disk → (front : List Part)
         → HasClaimed opening.old.pages opening.old.claimed front
@@ -534,7 +534,7 @@ fn compare_tunes(
     requires fits { from + length rows.old < 2 ^ 64 }
     requires within { from + length rows.old ≤ length claims.now.numbers }
     requires numbers { take (length rows.old) (drop from claims.now.numbers)
-        ≡ numbers_in rows.old }
+        ≡ numbers_of_rows rows.old }
     requires room { length rows.old ≤ length chains.now }
     ensures same { OnOk result (number_entries rows.new ≡ number_entries rows.old) }
     ensures claimed { OnOk result ((pages : List (List ℕ)) (front : List Part)

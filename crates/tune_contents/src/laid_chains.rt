@@ -25,7 +25,7 @@ ghost use Rattle.tune_contents.specs.Inside.Laying.{SwapsChain, LaysRoot, LaysSe
 ghost use Rattle.tune_contents.specs.Inside.Laying.{HoldsSomeTunes, LaysTunes};
 ghost use Rattle.tune_contents.specs.Inside.ChangedRows.{AddsRow, AddsRows, PutsRow};
 ghost use Rattle.tune_contents.specs.Inside.ChangedRows.{IsBehind, IsMadeOf, IsSingle};
-ghost use Rattle.tune_contents.specs.Inside.TuneRows.{numbers_in};
+ghost use Rattle.tune_contents.specs.Inside.TuneRows.{numbers_of_rows};
 ghost use Rattle.tune_contents.specs.Inside.Takes.{tune_pages, text_pages, sets_pages};
 
 use crate::next::RowChange;
@@ -205,7 +205,7 @@ fn add_tunes<D: Disk>(
         → LaysTunes (stand pages.now work.old) (stand pages.now work.new)
         rows (rows ++ more.items) (λ tunes. tunes ++ numbered first texts.now)) }
     ensures rows { IfOk result (λ more.
-        numbers_in more.items ≡ range_with_len first (length texts.now)) }
+        numbers_of_rows more.items ≡ range_with_len first (length texts.now)) }
     ensures quiet { IfErr result (λ fault. (fault ≢ Device) × (fault ≢ Closed)) }
     ensures takes { TakesAtMost (text_pages texts.now) result
         (stand pages.now work.old) (stand pages.now work.new) }

@@ -10,10 +10,10 @@ ghost use Rattle.tune_pages.specs.PageLooks.{LooksAt, SameStand};
 ghost use Rattle.tune_pages.specs.Work.{stand, Fits};
 ghost use Rattle.tune_pages.specs.declared.fault.Fault.TheVariants.{OutOfMemory};
 ghost use Rattle.tune_parts.specs.Parts.{Part};
-ghost use Rattle.tune_search.specs.IncipitForms.{notes_in};
-ghost use Rattle.tune_search.specs.SearchPages.{AreListed, firsts_in, leaves_of};
+ghost use Rattle.tune_search.specs.IncipitForms.{note_count};
+ghost use Rattle.tune_search.specs.SearchPages.{AreListed, firsts_in, leaf_count};
 ghost use Rattle.tune_search.specs.Searches.{HoldsSomeTexts, HoldsTexts, SearchParts};
-ghost use Rattle.tune_search.specs.Searches.{numbered};
+ghost use Rattle.tune_search.specs.Searches.{texts_numbered};
 ghost use Rattle.tune_store.specs.Plans.{CanChange, changed_tunes};
 ghost use Rattle.tune_store.specs.State.{IsTunes};
 ghost use Rattle.tune_store.specs.declared.tune.Tune.{Tune};
@@ -139,8 +139,8 @@ fn runs_of(
     texts: &[TuneText],
 ) -> Result<Option<Runs>, Fault>
     requires { first + length texts.now ≤ 2 ^ 32 }
-    ensures notes { IfOk result (λ run. IsByNotes (notes_in notes) run) }
-    ensures runs { IfOk result (λ run. IsSome run × PutsIn run (numbered first texts.now)) }
+    ensures notes { IfOk result (λ run. IsByNotes (note_count notes) run) }
+    ensures runs { IfOk result (λ run. IsSome run × PutsIn run (texts_numbered first texts.now)) }
     ensures err { IfErr result (λ fault. fault ≡ OutOfMemory) }
 {
     match Runs::new(alloc, notes, first, texts) {
@@ -155,7 +155,7 @@ fn runs_out(
     notes: IncipitNotes,
     old: &Option<(u32, TuneText)>,
 ) -> Result<Option<Runs>, Fault>
-    ensures notes { IfOk result (λ gone. IsByNotes (notes_in notes) gone) }
+    ensures notes { IfOk result (λ gone. IsByNotes (note_count notes) gone) }
     ensures runs { IfOk result (λ gone. AreRunsOut old.now gone) }
     ensures err { IfErr result (λ fault. fault ≡ OutOfMemory) }
 {
@@ -173,7 +173,7 @@ fn runs_in(
     old: &Option<(u32, TuneText)>,
 ) -> Result<Option<Runs>, Fault>
     requires { HasSmallNumbers change.now }
-    ensures notes { IfOk result (λ come. IsByNotes (notes_in notes) come) }
+    ensures notes { IfOk result (λ come. IsByNotes (note_count notes) come) }
     ensures runs { IfOk result (λ come. PutsIn come (coming change.now old.now)) }
     ensures err { IfErr result (λ fault. fault ≡ OutOfMemory) }
 {
@@ -218,8 +218,8 @@ pub(crate) fn text_runs<D: Disk>(
         → ChangesTexts runs.gone runs.come (numbered_texts tunes)
         (numbered_texts (changed_tunes change.now tunes))) }
     ensures come { IfOk result (λ runs. IsSomeRun runs.come) }
-    ensures gone_notes { IfOk result (λ runs. IsByNotes (notes_in notes) runs.gone) }
-    ensures come_notes { IfOk result (λ runs. IsByNotes (notes_in notes) runs.come) }
+    ensures gone_notes { IfOk result (λ runs. IsByNotes (note_count notes) runs.gone) }
+    ensures come_notes { IfOk result (λ runs. IsByNotes (note_count notes) runs.come) }
     ensures fits { OnOk result (Fits pages.new work.now) }
     ensures stand { OnOk result (SameStand (HonestAt D.honest pages.new.disk)
         (stand pages.old work.now) (stand pages.new work.now)) }
@@ -253,8 +253,8 @@ fn take_runs<D: Disk>(
     ensures lays { OnOk result (HonestAt D.honest pages.new.disk → TakesTexts
         (stand pages.old work.old) (stand pages.new work.new) searches.old searches.new gone.now) }
     ensures balance { OnOk result (free_pages (stand pages.old work.old).used
-        + leaves_of searches.old ≡ free_pages (stand pages.new work.new).used
-        + leaves_of searches.new) }
+        + leaf_count searches.old ≡ free_pages (stand pages.new work.new).used
+        + leaf_count searches.new) }
     ensures looks { LooksAt D.honest D.failures D.state result pages.old pages.new }
     ensures answer { AnswersEdit result pages.new.closed ⊥ }
 {
@@ -286,8 +286,8 @@ fn put_runs<D: Disk>(
     ensures lays { OnOk result (HonestAt D.honest pages.new.disk → PutsTexts
         (stand pages.old work.old) (stand pages.new work.new) searches.old searches.new come.now) }
     ensures balance { OnOk result (free_pages (stand pages.old work.old).used
-        + leaves_of searches.old ≡ free_pages (stand pages.new work.new).used
-        + leaves_of searches.new) }
+        + leaf_count searches.old ≡ free_pages (stand pages.new work.new).used
+        + leaf_count searches.new) }
     ensures looks { LooksAt D.honest D.failures D.state result pages.old pages.new }
     ensures answer { AnswersEdit result pages.new.closed (HonestAt D.honest pages.new.disk
         → IsFullForTexts (stand pages.old work.old) searches.old come.now) }

@@ -5,7 +5,7 @@ ghost use Rattle.std.specs.List.{Contains, remove};
 ghost use Rattle.tune_store.specs.Limits.{greatest_number};
 ghost use Rattle.tune_format.specs.declared.rows.Row.{Row};
 ghost use Rattle.tune_store.specs.declared.layout.Layout.{Layout};
-ghost use Rattle.tune_contents.specs.Inside.TuneRows.{IsRowAfter, MovesTunes, numbers_in};
+ghost use Rattle.tune_contents.specs.Inside.TuneRows.{IsRowAfter, MovesTunes, numbers_of_rows};
 ghost use Rattle.tune_contents.specs.Inside.ChangedRows.{IsSingle};
 ghost use Rattle.tune_contents.specs.Claimed.{AreRows, RowsRise};
 ghost use Rattle.tune_contents.specs.Next.{rows_after};
@@ -110,7 +110,7 @@ pub(crate) fn move_row(rows: &TieredVector<Row>, number: u32, to: u32) -> RowCha
     ensures moves { MovesTunes rows.now.items (rows_after result rows.now.items) number to }
     ensures single { IsSingle result rows.now.items }
     ensures rows { (layout : Layout) → AreRows layout rows.now.items
-        → ¬ Contains (numbers_in rows.now.items) to → 0 < to → to ≤ greatest_number
+        → ¬ Contains (numbers_of_rows rows.now.items) to → 0 < to → to ≤ greatest_number
         → AreRows layout (rows_after result rows.now.items) }
 {
     let Some(place) = place_of(rows, number) else {

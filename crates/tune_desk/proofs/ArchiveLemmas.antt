@@ -5,11 +5,11 @@ use Rattle.std.specs.List.{AllByRecursion}
 use Rattle.tune_disk.specs.declared.file.Access.TheVariants.{Read, Change}
 use Rattle.tune_desk.specs.ArchiveFiles.{Keeping, KeepsNone, KeepsEntry, MayKeep, MakesArchiveBy, MakesIt, MakesItBy, FileLeads, IsHeld, IsPutAside}
 use Rattle.tune_desk.specs.ArchiveFiles.{IsBegunArchiveBy, MakesNoneBy, NamesNone}
-use Rattle.tune_desk.specs.BegunResults.{NamesNew, AfterNaming, Outcome, naming_of, refusal_of_removal}
+use Rattle.tune_desk.specs.BegunResults.{NamesNew, AfterNaming, PutOutcome, naming_of, refusal_of_removal}
 use Rattle.tune_desk.specs.DeskDeeds.{DeskDeed, Answer, ChangesNothing, looked, compared, tested, followed, read, listed, made, named, named_over}
 use Rattle.tune_desk.specs.DeskDeeds.{removed, opened}
 use Rattle.tune_desk.specs.DeskDeeds.{closed, grown, created, linked, shared}
-use Rattle.tune_desk.specs.Results.{EachAfter, Leaves, new_of, places_of}
+use Rattle.tune_desk.specs.Results.{EachAfter, LeavesFile, new_of, result_places}
 use Rattle.tune_desk.specs.declared.desk.DeskFault.{DeskFault}
 use Rattle.tune_desk.proofs.BegunLemmas.{own_more, quiet_leaves}
 use Rattle.tune_desk.proofs.DeedLists.{covers_front, covers_rest, grows-more, All-append, All-map}
@@ -66,7 +66,7 @@ module _ {D : Type 0} (front : List (DeskDeed D)) where
   kept_after : (keeping : Keeping) (file : List ℕ) (before : List (DeskDeed D)) (path : List ℕ) → MayKeep keeping file before path
       → MayKeep keeping file (front ++ before) path
   kept_after KeepsNone file before path h = absurd h
-  kept_after KeepsEntry file before path h = (h.0, grows-more (covers_rest front before) (places_of file None false) path h.1)
+  kept_after KeepsEntry file before path h = (h.0, grows-more (covers_rest front before) (result_places file None false) path h.1)
 
   pub makes_after : (keeping : Keeping) (file : List ℕ) (before : List (DeskDeed D)) (deed : DeskDeed D) → MakesItBy keeping file before deed
       → MakesItBy keeping file (front ++ before) deed
@@ -160,7 +160,7 @@ module _ {D : Type 0} {keeping : Keeping} (file target : List ℕ) (was mid : Li
   }
 
   pub archive_then : (now : List (DeskDeed D)) (deed : DeskDeed D) → now ≡ mid ++ deed ∷ [] → MakesItBy keeping file h.since deed → NamesNone deed
-      → Leaves (new_of target) deed → IsBegunArchiveBy keeping file target was now
+      → LeavesFile (new_of target) deed → IsBegunArchiveBy keeping file target was now
   archive_then now deed e fits none leaves = record {
     since = h.since ++ deed ∷ [];
     history = far now (deed ∷ []) e;
@@ -187,7 +187,7 @@ module _ {D : Type 0} {keeping : Keeping} (file target : List ℕ) (was mid : Li
     unnamed = All-append NamesNone h.since asked h.unnamed (All-map ChangesNothing NamesNone quiet_unnamed asked quiet);
     leads = (covers_front h.since asked).each (followed file (Ok target)) h.leads;
     own = own_more (new_of target) h.since asked h.own
-        (All-map ChangesNothing (Leaves (new_of target)) (quiet_leaves (new_of target)) asked quiet);
+        (All-map ChangesNothing (LeavesFile (new_of target)) (quiet_leaves (new_of target)) asked quiet);
   }
 
   pub archive_shared : (now : List (DeskDeed D)) (like : List ℕ) (answer : Answer) → now ≡ mid ++ shared (new_of target) like answer ∷ []
@@ -207,13 +207,13 @@ naming_none D target true fault = refl
 naming_none D target false fault = refl
 
 -- TARGET.new is named, or taken away
-pub finished_archive : {D : Type 0} {keeping : Keeping} (file target : List ℕ) (over : Bool) (was mid now : List (DeskDeed D)) (outcome : Outcome)
+pub finished_archive : {D : Type 0} {keeping : Keeping} (file target : List ℕ) (over : Bool) (was mid now : List (DeskDeed D)) (outcome : PutOutcome)
     (h : IsBegunArchiveBy keeping file target was mid) → (over ≡ true → IsHeld target h.since × IsPutAside target h.since)
     → NamesNew target over outcome mid now
     → MatchResult outcome (λ _. MakesArchiveBy keeping file was now × (now ≡ mid ++ naming_of target over (Ok tt) ∷ [])) (λ _. MakesNoneBy keeping file was now)
 finished_archive {D} {keeping} file target over was mid now outcome h may names = by names.answer names.after
   where
-    Comes : Outcome → Type 0
+    Comes : PutOutcome → Type 0
     Comes out = MatchResult out (λ _. MakesArchiveBy keeping file was now × (now ≡ mid ++ naming_of target over (Ok tt) ∷ []))
         (λ _. MakesNoneBy keeping file was now)
 

@@ -3,9 +3,9 @@ use Rattle.std.proofs.Common.{◌≡◌, ◌⊎◌, ℕ, List, [], ◌∷◌, �
 use Rattle.std.proofs.lemmas.List.{append_assoc, append-nil}
 use Rattle.std.specs.List.{Contains}
 use Rattle.tune_desk.specs.DeskDeeds.{DeskDeed, ChangesNothing, looked, tested, followed}
-use Rattle.tune_desk.specs.Inside.Asks.{Asks, Judges, KnowsStanding, IsUnasked, IsNamedLike, TellsNames, IsHeld, IsReplaceable, MayBeWritten}
+use Rattle.tune_desk.specs.Inside.Asks.{Asks, Judges, KnowsStanding, IsCauseUnasked, IsNamedLike, TellsNames, IsHeld, IsReplaceable, MayBeWritten}
 use Rattle.tune_desk.specs.Refusals.{HasCause}
-use Rattle.tune_desk.specs.Results.{Places, AreApart, SparesNames, SparesArchive, archive_head}
+use Rattle.tune_desk.specs.Results.{Places, AreFoundApart, SparesNames, SparesArchive, archive_head}
 use Rattle.tune_desk.specs.declared.desk.DeskFault.{DeskFault}
 use Rattle.tune_desk.specs.declared.desk.Standing.TheVariants as standing
 use Rattle.tune_desk.specs.declared.refusals.ResultRefusal.{ResultRefusal}
@@ -100,7 +100,7 @@ look_then places target result was mid now deed e quiet h =
     (λ b. standing-more (covers_rest (deed ∷ []) rest) target b) result) h
 
 module _ {D : Type 0} (places : Places) (target : List ℕ) where
-  pub unasked_cause : (why : ResultRefusal) (since : List (DeskDeed D)) → IsUnasked why since → HasCause places target why since
+  pub unasked_cause : (why : ResultRefusal) (since : List (DeskDeed D)) → IsCauseUnasked why since → HasCause places target why since
   unasked_cause (Unasked fault) since h = h
   unasked_cause OutOfMemory since h = tt
   unasked_cause Archive since h = absurd h
@@ -243,7 +243,7 @@ module _ {D : Type 0} (places : Places) (target : List ℕ) where
   -- a file that is not FILE was tested
   pub tested_later : (answer : Result Bool DeskFault) (Q : List (DeskDeed D) → Type 0) (was mid now : List (DeskDeed D))
       → now ≡ mid ++ tested target archive_head answer ∷ []
-      → ((since : List (DeskDeed D)) → AreApart target places.file since → Q (since ++ tested target archive_head answer ∷ []))
-      → Asks (AreApart target places.file) was mid → Asks Q was now
-  tested_later answer Q was mid now e f h = asks_both (AreApart target places.file) (λ since. since ≡ tested target archive_head answer ∷ []) Q was mid now
+      → ((since : List (DeskDeed D)) → AreFoundApart target places.file since → Q (since ++ tested target archive_head answer ∷ []))
+      → Asks (AreFoundApart target places.file) was mid → Asks Q was now
+  tested_later answer Q was mid now e f h = asks_both (AreFoundApart target places.file) (λ since. since ≡ tested target archive_head answer ∷ []) Q was mid now
       (λ front rest p q. subst (λ r. Q (front ++ r)) (sym q) (f front p)) h (asks_one _ mid now (tested target archive_head answer) e refl refl)

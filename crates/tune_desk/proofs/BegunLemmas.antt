@@ -3,10 +3,10 @@ use Rattle.std.proofs.Common.{◌≡◌, ◌≢◌, ℕ, List, [], ◌∷◌, �
 use Rattle.std.proofs.lemmas.List.{append_assoc}
 use Rattle.std.specs.List.{AllByRecursion, Contains}
 use Rattle.tune_disk.specs.declared.file.Access.TheVariants.{Read, Change}
-use Rattle.tune_desk.specs.BegunResults.{IsBegun, NamesNew, AfterNaming, Outcome, naming_of}
+use Rattle.tune_desk.specs.BegunResults.{IsBegun, NamesNew, AfterNaming, PutOutcome, naming_of}
 use Rattle.tune_desk.specs.DeskDeeds.{DeskDeed, Answer, ChangesNothing, looked, compared, tested, followed, read, listed, made, named, named_over, removed}
 use Rattle.tune_desk.specs.DeskDeeds.{opened, closed, grown, created, linked, shared}
-use Rattle.tune_desk.specs.Results.{Places, KeepsTo, ComesInOrder, SparesFiles, IsOwn, Leaves, new_of}
+use Rattle.tune_desk.specs.Results.{Places, KeepsTo, ComesInOrder, SparesFiles, IsOwn, LeavesFile, new_of}
 use Rattle.tune_desk.specs.declared.desk.DeskFault.{DeskFault}
 use Rattle.tune_desk.specs.declared.desk.DeskFault.TheVariants as desk
 use Rattle.tune_desk.proofs.DeedLists.{covers_front, All-append, leads-more, archive-more, replaced-more}
@@ -17,7 +17,7 @@ pub none_there : (path : List ℕ) → ¬ Contains [] path
 none_there path h = absurd (let lt = h.1 in omega (arith, lt))
 
 -- what changes nothing leaves each file
-pub quiet_leaves : {D : Type 0} (path : List ℕ) (deed : DeskDeed D) → ChangesNothing deed → Leaves path deed
+pub quiet_leaves : {D : Type 0} (path : List ℕ) (deed : DeskDeed D) → ChangesNothing deed → LeavesFile path deed
 quiet_leaves path (looked other answer) h = none_there path
 quiet_leaves path (compared one other answer) h = none_there path
 quiet_leaves path (tested other bytes answer) h = none_there path
@@ -37,7 +37,7 @@ quiet_leaves path (linked from to answer) h = absurd (cc)
 quiet_leaves path (shared other like answer) h = absurd (cc)
 
 -- a file of the order's own stays so while it is left
-pub own_more : {D : Type 0} (path : List ℕ) (before more : List (DeskDeed D)) → IsOwn path before → AllByRecursion (Leaves path) more
+pub own_more : {D : Type 0} (path : List ℕ) (before more : List (DeskDeed D)) → IsOwn path before → AllByRecursion (LeavesFile path) more
     → IsOwn path (before ++ more)
 own_more path before more h left = record {
   making = h.making;
@@ -45,7 +45,7 @@ own_more path before more h left = record {
   since = h.since ++ more;
   makes = h.makes;
   history = ap (λ l. l ++ more) h.history ∙ append_assoc h.earlier (h.making ∷ h.since) more;
-  left = All-append (Leaves path) h.since more h.left left;
+  left = All-append (LeavesFile path) h.since more h.left left;
 }
 
 module _ {D : Type 0} (places : Places) (target : List ℕ) (over : Bool) (was mid : List (DeskDeed D)) (h : IsBegun places target over was mid) where
@@ -66,7 +66,7 @@ module _ {D : Type 0} (places : Places) (target : List ℕ) (over : Bool) (was m
   }
 
   pub begun_then : (now : List (DeskDeed D)) (deed : DeskDeed D) → now ≡ mid ++ deed ∷ [] → KeepsTo places h.since deed → ComesInOrder places h.since deed
-      → Leaves (new_of target) deed → IsBegun places target over was now
+      → LeavesFile (new_of target) deed → IsBegun places target over was now
   begun_then now deed e keeps comes leaves = record {
     since = h.since ++ deed ∷ [];
     history = more_history now (deed ∷ []) e;
@@ -104,7 +104,7 @@ module _ {D : Type 0} (places : Places) (target : List ℕ) (over : Bool) (was m
       (naming_comes places target over (Err fault) h.since cleared h.own) (naming_leaves D target over fault other)
 
 -- TARGET.new is named, or taken away
-pub finished_spares : {D : Type 0} (places : Places) (target : List ℕ) (over : Bool) (was mid now : List (DeskDeed D)) (outcome : Outcome)
+pub finished_spares : {D : Type 0} (places : Places) (target : List ℕ) (over : Bool) (was mid now : List (DeskDeed D)) (outcome : PutOutcome)
     → IsBegun places target over was mid → NamesNew target over outcome mid now → SparesFiles places was now
 finished_spares places target over was mid now outcome h names = by names.answer names.after
   where

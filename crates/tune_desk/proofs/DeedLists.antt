@@ -5,7 +5,7 @@ use Rattle.std.specs.List.{AllByRecursion, Contains}
 use Rattle.tune_desk.specs.DeskDeeds.{DeskDeed}
 use Rattle.tune_desk.specs.KeptNames.{IsNamesake, IsKeptName, folder_of}
 use Rattle.tune_desk.specs.Refusals.{HasCause, HasFault, IsBeside}
-use Rattle.tune_desk.specs.Results.{Places, LeadsTo, AreApart, SparesNames, SparesArchive, MayBeReplaced, MayGrow}
+use Rattle.tune_desk.specs.Results.{Places, LeadsTo, AreFoundApart, SparesNames, SparesArchive, MayBeReplaced, MayGrow}
 use Rattle.tune_desk.specs.declared.refusals.ResultRefusal.{ResultRefusal}
 use Rattle.tune_desk.specs.declared.refusals.ResultRefusal.TheVariants.{Archive, OtherArchive, Companion}
 use Rattle.tune_desk.specs.declared.refusals.ResultRefusal.TheVariants.{Standing as StandsThere, Folder, NotFile}
@@ -37,7 +37,7 @@ module _ {D : Type 0} {some all : List (DeskDeed D)} (more : Covers some all) wh
   pub leads-more : (places : Places) (target : List ℕ) → LeadsTo places target some → LeadsTo places target all
   leads-more places target h = record { out = h.out; asked = h.asked; answered = more.each _ h.answered }
 
-  pub apart-more : (path other : List ℕ) → AreApart path other some → AreApart path other all
+  pub apart-more : (path other : List ℕ) → AreFoundApart path other some → AreFoundApart path other all
   apart-more path other (inl h) = inl (more.each _ h)
   apart-more path other (inr h) = inr (more.each _ h)
 

@@ -8,7 +8,7 @@ use Rattle.tune_desk.specs.ArchiveFiles.{KeepsNone, KeepsEntry, MakesItBy, IsBeg
 use Rattle.tune_desk.specs.DeskDeeds.{DeskDeed, Answer, ChangesNothing, looked, compared, tested, followed, read, listed, made, named, named_over, removed}
 use Rattle.tune_desk.specs.DeskDeeds.{opened, closed, grown, created, linked, shared}
 use Rattle.tune_desk.specs.OldTexts.{Grows, GrowsNot}
-use Rattle.tune_desk.specs.Results.{SparesFiles, ComesInOrder, EachAfter, Leaves, MayGrow, new_of, old_of, places_of}
+use Rattle.tune_desk.specs.Results.{SparesFiles, ComesInOrder, EachAfter, LeavesFile, MayGrow, new_of, old_of, result_places}
 use Rattle.tune_desk.specs.declared.desk.DeskFault.{DeskFault}
 use Rattle.tune_desk.proofs.ArchiveLemmas.{archive_asked, archive_then}
 use Rattle.tune_desk.proofs.BegunLemmas.{none_there}
@@ -22,7 +22,7 @@ old_is_not_new file target e =
     let last : 99 ≡ 119 = (same_from_push (file ++ codes ".old.ab") (target ++ codes ".ne") 99 119 whole).1 in
     omega (arith, last)
 
-leaves_new : (D : Type 0) (file target piece : List ℕ) (answer : Answer) → Leaves {D = D} (new_of target) (grown (old_of file) piece answer)
+leaves_new : (D : Type 0) (file target piece : List ℕ) (answer : Answer) → LeavesFile {D = D} (new_of target) (grown (old_of file) piece answer)
 leaves_new D file target piece answer h = elim (Contains-push_cases [] (old_of file) (new_of target) h) [
   | inl none ↦ none_there (new_of target) none
   | inr same ↦ old_is_not_new file target same
@@ -35,31 +35,31 @@ comes_last Fits before [] deed h = subst (λ l. Fits l deed) (sym (append-nil be
 comes_last Fits before (x ∷ xs) deed h = subst (λ l. Fits l deed) (append_assoc before (x ∷ []) xs) (comes_last Fits (before ++ x ∷ []) xs deed h.1)
 
 -- a growth that spared files came where it may
-may_grow : {D : Type 0} (file piece : List ℕ) (answer : Answer) (mid now asked : List (DeskDeed D)) → SparesFiles (places_of file None false) mid now
-    → now ≡ mid ++ (asked ++ grown (old_of file) piece answer ∷ []) → MayGrow (places_of file None false) (old_of file) asked
+may_grow : {D : Type 0} (file piece : List ℕ) (answer : Answer) (mid now asked : List (DeskDeed D)) → SparesFiles (result_places file None false) mid now
+    → now ≡ mid ++ (asked ++ grown (old_of file) piece answer ∷ []) → MayGrow (result_places file None false) (old_of file) asked
 may_grow file piece answer mid now asked spares e =
-    let places = places_of file None false in
+    let places = result_places file None false in
     let deed = grown (old_of file) piece answer in
     let same : spares.since ≡ asked ++ deed ∷ [] = append_cancel_left mid spares.since (asked ++ deed ∷ []) (sym spares.history ∙ e) in
     comes_last (ComesInOrder places) [] asked deed (subst (EachAfter (ComesInOrder places) []) same spares.in_order)
 
 module _ {D : Type 0} (file target : List ℕ) (was mid now : List (DeskDeed D)) (h : IsBegunArchiveBy KeepsEntry file target was mid) where
-  grown_then : (asked : List (DeskDeed D)) (piece : List ℕ) (answer : Answer) → SparesFiles (places_of file None false) mid now
+  grown_then : (asked : List (DeskDeed D)) (piece : List ℕ) (answer : Answer) → SparesFiles (result_places file None false) mid now
       → AllByRecursion ChangesNothing asked → now ≡ mid ++ (asked ++ grown (old_of file) piece answer ∷ []) → IsBegunArchiveBy KeepsEntry file target was now
   grown_then asked piece answer spares quiet e =
-      let places = places_of file None false in
+      let places = result_places file None false in
       let may = may_grow file piece answer mid now asked spares e in
       archive_then file target was (mid ++ asked) (archive_asked file target was mid h (mid ++ asked) asked refl quiet) now
       (grown (old_of file) piece answer) (e ∙ sym (append_assoc mid asked (grown (old_of file) piece answer ∷ [])))
       (refl, grows-more (covers_rest h.since asked) places (old_of file) may) tt (leaves_new D file target piece answer)
 
   -- an entry was kept
-  pub archive_kept : (bytes : List ℕ) → SparesFiles (places_of file None false) mid now → Grows file bytes mid now
+  pub archive_kept : (bytes : List ℕ) → SparesFiles (result_places file None false) mid now → Grows file bytes mid now
       → IsBegunArchiveBy KeepsEntry file target was now
   archive_kept bytes spares grows = grown_then grows.asked grows.piece (Ok tt) spares grows.changes_nothing grows.history
 
   -- or it was not
-  pub archive_unkept : SparesFiles (places_of file None false) mid now → GrowsNot file mid now → IsBegunArchiveBy KeepsEntry file target was now
+  pub archive_unkept : SparesFiles (result_places file None false) mid now → GrowsNot file mid now → IsBegunArchiveBy KeepsEntry file target was now
   archive_unkept spares not = by not.failed
     where
       by : (not.tried ≡ []) ⊎ ((piece : List ℕ) × (fault : DeskFault) × (not.tried ≡ grown (old_of file) piece (Err fault) ∷ []))

@@ -8,7 +8,7 @@ use Rattle.tune_desk.specs.DeskDeeds.{DeskDeed, Answer, compared, grown, Changes
 use Rattle.tune_desk.specs.Inside.Asks.{Asks}
 use Rattle.tune_desk.specs.Inside.Growths.{KnowsOther, KnowsNoArchive}
 use Rattle.tune_desk.specs.OldTexts.{Grows, GrowsNot, IsPieceOf}
-use Rattle.tune_desk.specs.Results.{SparesFiles, MayGrow, KeepsTo, ComesInOrder, IsReading, old_of, places_of}
+use Rattle.tune_desk.specs.Results.{SparesFiles, MayGrow, KeepsTo, ComesInOrder, IsReading, old_of, result_places}
 use Rattle.tune_desk.specs.declared.desk.DeskFault.{DeskFault}
 use Rattle.tune_desk.specs.declared.old_texts.OldTextsFault.{OldTextsFault}
 use Rattle.tune_desk.proofs.AskLemmas.{asks_first}
@@ -27,16 +27,17 @@ other_then file old (Err why) was mid now e h =
 
 module _ {D : Type 0} (file : List ℕ) where
   -- what was asked spares files
-  pub asked_spares : (Known : List (DeskDeed D) → Type 0) (was now : List (DeskDeed D)) → Asks Known was now → SparesFiles (places_of file None false) was now
-  asked_spares Known was now asks = subst (SparesFiles (places_of file None false) was) (sym asks.history)
-      (spares_reading (places_of file None false) was asks.since (quiet_all (places_of file None false) asks.since asks.changes_nothing))
+  pub asked_spares : (Known : List (DeskDeed D) → Type 0) (was now : List (DeskDeed D)) → Asks Known was now
+      → SparesFiles (result_places file None false) was now
+  asked_spares Known was now asks = subst (SparesFiles (result_places file None false) was) (sym asks.history)
+      (spares_reading (result_places file None false) was asks.since (quiet_all (result_places file None false) asks.since asks.changes_nothing))
 
   -- and so does a growth after it
   pub grown_spares : (was mid now : List (DeskDeed D)) (piece : List ℕ) (answer : Answer)
-      → Asks (MayGrow (places_of file None false) (old_of file)) was mid → now ≡ mid ++ grown (old_of file) piece answer ∷ []
-      → SparesFiles (places_of file None false) was now
+      → Asks (MayGrow (result_places file None false) (old_of file)) was mid → now ≡ mid ++ grown (old_of file) piece answer ∷ []
+      → SparesFiles (result_places file None false) was now
   grown_spares was mid now piece answer asks e =
-      let places = places_of file None false in
+      let places = result_places file None false in
       let deed = grown (old_of file) piece answer in
       let reads = quiet_all places asks.since asks.changes_nothing in
       record {
@@ -82,8 +83,8 @@ module _ {D : Type 0} (file : List ℕ) where
   }
 
   -- where there was no memory at the beginning
-  pub nothing_spares : (was : List (DeskDeed D)) → SparesFiles (places_of file None false) was was
-  nothing_spares was = spares_none (places_of file None false) was
+  pub nothing_spares : (was : List (DeskDeed D)) → SparesFiles (result_places file None false) was was
+  nothing_spares was = spares_none (result_places file None false) was
 
   pub nothing_grown : (was : List (DeskDeed D)) → GrowsNot file was was
   nothing_grown was = record { asked = []; tried = []; history = sym (append-nil was); changes_nothing = tt; failed = inl refl }

@@ -2,7 +2,7 @@
 use Rattle.std.proofs.Common.{◌≡◌, ◌≢◌, ℕ, List, [], ◌∷◌, ◌++◌, Bool, refl, ap, ◌∙◌, inl, inr, Ok, Err}
 use Rattle.std.proofs.lemmas.List.{append_assoc}
 use Rattle.tune_desk.specs.DeskDeeds.{DeskDeed, Answer, made, removed}
-use Rattle.tune_desk.specs.BegunResults.{AfterNaming, Outcome, naming_of, refusal_of_removal}
+use Rattle.tune_desk.specs.BegunResults.{AfterNaming, PutOutcome, naming_of, refusal_of_removal}
 use Rattle.tune_desk.specs.Inside.Puts.{PutsIt, AfterMaking, refusal_of_making}
 use Rattle.tune_desk.specs.Results.{new_of}
 use Rattle.tune_desk.specs.declared.desk.DeskFault.{DeskFault}
@@ -10,7 +10,7 @@ use Rattle.tune_desk.specs.declared.desk.DeskFault.TheVariants as desk
 use Rattle.tune_desk.specs.declared.refusals.ResultRefusal.TheVariants.{Unkept}
 
 -- the deeds of a result, after questions
-pub data Done {D : Type 0} (target : List ℕ) (over : Bool) (bytes : List ℕ) (outcome : Outcome) (deeds : List (DeskDeed D)) : Type 0 where
+pub data Done {D : Type 0} (target : List ℕ) (over : Bool) (bytes : List ℕ) (outcome : PutOutcome) (deeds : List (DeskDeed D)) : Type 0 where
   not_made : (fault : DeskFault) → deeds ≡ made (new_of target) bytes (Err fault) ∷ [] → outcome ≡ Err (refusal_of_making fault)
       → Done target over bytes outcome deeds
   put : deeds ≡ made (new_of target) bytes (Ok tt) ∷ naming_of target over (Ok tt) ∷ [] → outcome ≡ Ok tt → Done target over bytes outcome deeds
@@ -26,7 +26,7 @@ two_more was now a b e = e ∙ append_assoc was (a ∷ []) (b ∷ [])
 pub three_more : {D : Type 0} (was now : List (DeskDeed D)) (a b c : DeskDeed D) → now ≡ ((was ++ a ∷ []) ++ b ∷ []) ++ c ∷ [] → now ≡ was ++ a ∷ b ∷ c ∷ []
 three_more was now a b c e = e ∙ append_assoc (was ++ a ∷ []) (b ∷ []) (c ∷ []) ∙ append_assoc was (a ∷ []) (b ∷ c ∷ [])
 
-module _ {D : Type 0} (target : List ℕ) (over : Bool) (bytes : List ℕ) (outcome : Outcome) (was now : List (DeskDeed D)) where
+module _ {D : Type 0} (target : List ℕ) (over : Bool) (bytes : List ℕ) (outcome : PutOutcome) (was now : List (DeskDeed D)) where
   done_named : (answer : Answer)
       → AfterNaming target answer outcome ((was ++ made (new_of target) bytes (Ok tt) ∷ []) ++ naming_of target over answer ∷ []) now
       → (deeds : List (DeskDeed D)) × (now ≡ was ++ deeds) × Done target over bytes outcome deeds

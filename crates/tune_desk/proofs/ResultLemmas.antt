@@ -7,10 +7,10 @@ use Rattle.tune_desk.specs.DeskDeeds.{DeskDeed, Answer, ChangesNothing, looked, 
 use Rattle.tune_desk.specs.DeskDeeds.{read, listed, made, named, named_over, removed, opened, closed}
 use Rattle.tune_desk.specs.DeskDeeds.{grown, created, linked, shared}
 use Rattle.tune_desk.specs.Inside.Asks.{MayBeWritten}
-use Rattle.tune_desk.specs.BegunResults.{Outcome, naming_of, refusal_of_removal}
+use Rattle.tune_desk.specs.BegunResults.{PutOutcome, naming_of, refusal_of_removal}
 use Rattle.tune_desk.specs.Inside.Puts.{WritesTo, refusal_of_making}
 use Rattle.tune_desk.specs.Refusals.{Refuses, HasCause, DoneBefore, NamesNothing, LeadsNowhere}
-use Rattle.tune_desk.specs.Results.{Places, LeadsTo, KeepsTo, ComesInOrder, EachAfter, SparesFiles, IsOwn, Leaves, Names, Writes, new_of}
+use Rattle.tune_desk.specs.Results.{Places, LeadsTo, KeepsTo, ComesInOrder, EachAfter, SparesFiles, IsOwn, LeavesFile, Names, WritesTarget, new_of}
 use Rattle.tune_desk.specs.declared.desk.DeskFault.{DeskFault}
 use Rattle.tune_desk.specs.declared.desk.DeskFault.TheVariants as desk
 use Rattle.tune_desk.specs.declared.refusals.ResultFault.{ResultFault}
@@ -51,7 +51,7 @@ naming_comes places target true answer before h own = (own, h.may.spares, h.may.
 naming_comes places target false answer before h own = (own, h.may.spares)
 
 pub naming_leaves : (D : Type 0) (target : List ℕ) (over : Bool) (fault : DeskFault) → fault ≢ desk.Unkept
-    → Leaves {D = D} (new_of target) (naming_of target over (Err fault))
+    → LeavesFile {D = D} (new_of target) (naming_of target over (Err fault))
 naming_leaves D target true fault h = h
 naming_leaves D target false fault h = h
 
@@ -89,7 +89,7 @@ module _ {D : Type 0} (places : Places) (target : List ℕ) (over : Bool) (bytes
   after_made : (answer : Answer) → Cleared places target over (before ++ made (new_of target) bytes answer ∷ [])
   after_made answer = cleared-more places target over before (made (new_of target) bytes answer ∷ []) h
 
-  pub done_keeps : (outcome : Outcome) (deeds : List (DeskDeed D)) → Done target over bytes outcome deeds → EachAfter (KeepsTo places) before deeds
+  pub done_keeps : (outcome : PutOutcome) (deeds : List (DeskDeed D)) → Done target over bytes outcome deeds → EachAfter (KeepsTo places) before deeds
   done_keeps outcome deeds (not_made fault e o) = subst (λ l. EachAfter (KeepsTo places) before l) (sym e) ((target, h.leads, refl), tt)
   done_keeps outcome deeds (put e o) = subst (λ l. EachAfter (KeepsTo places) before l) (sym e)
       ((target, h.leads, refl), (naming_keeps places target over (Ok tt) _ (after_made (Ok tt)), tt))
@@ -111,7 +111,7 @@ module _ {D : Type 0} (places : Places) (target : List ℕ) (over : Bool) (bytes
     ),
   )
 
-  pub done_comes : (outcome : Outcome) (deeds : List (DeskDeed D)) → Done target over bytes outcome deeds → EachAfter (ComesInOrder places) before deeds
+  pub done_comes : (outcome : PutOutcome) (deeds : List (DeskDeed D)) → Done target over bytes outcome deeds → EachAfter (ComesInOrder places) before deeds
   done_comes outcome deeds (not_made fault e o) = subst (λ l. EachAfter (ComesInOrder places) before l) (sym e) ((target, h.may.spares, refl), tt)
   done_comes outcome deeds (put e o) = subst (λ l. EachAfter (ComesInOrder places) before l) (sym e)
       ((target, h.may.spares, refl), (naming_comes places target over (Ok tt) _ (after_made (Ok tt)) own_made, tt))
@@ -126,10 +126,10 @@ at_target : {X : Type 0} (found : Option X) (bytes_of : X → List ℕ) (target 
 at_target None bytes_of target P Q h q = absurd h
 at_target (Some name) bytes_of target P Q h q = subst Q (sym h) q
 
-ok_is_no_err : (why : ResultRefusal) → (let o : Outcome = Ok tt in o) ≡ Err why → ⊥
+ok_is_no_err : (why : ResultRefusal) → (let o : PutOutcome = Ok tt in o) ≡ Err why → ⊥
 ok_is_no_err why e = cc
 
-err_once : (a b : ResultRefusal) → (let o : Outcome = Err a in o) ≡ Err b → a ≡ b
+err_once : (a b : ResultRefusal) → (let o : PutOutcome = Err a in o) ≡ Err b → a ≡ b
 err_once a b e = cc
 
 not_removed : (fault : DeskFault) (answer : Answer) → refusal_of_removal fault answer ≡ Ok tt → ⊥
@@ -201,7 +201,7 @@ module _ (D : Type 0) (places : Places) (target : List ℕ) (over : Bool) (bytes
       subst (λ w. AllByRecursion (DoneBefore w) all × HasCause places target w all) (err_once (Left left) why e)
       ((tt, (naming_fails D target over fault other, (tt, tt))), third _ _ _)
 
-  done_refused : (outcome : Outcome) (why : ResultRefusal) (deeds : List (DeskDeed D)) → outcome ≡ Err why → Done target over bytes outcome deeds
+  done_refused : (outcome : PutOutcome) (why : ResultRefusal) (deeds : List (DeskDeed D)) → outcome ≡ Err why → Done target over bytes outcome deeds
       → AllByRecursion (DoneBefore why) deeds × HasCause places target why deeds
   done_refused outcome why deeds is (put d o) = absurd (ok_is_no_err why (sym o ∙ is))
   done_refused outcome why deeds is (not_made fault d o) =
@@ -251,7 +251,7 @@ module _ {D : Type 0} (places : Places) (target : List ℕ) (out : List ℕ) (wa
     };
   }
 
-  put_spares : (over : Bool) (bytes : List ℕ) (outcome : Outcome) (asked deeds : List (DeskDeed D)) → now ≡ mid ++ (asked ++ deeds)
+  put_spares : (over : Bool) (bytes : List ℕ) (outcome : PutOutcome) (asked deeds : List (DeskDeed D)) → now ≡ mid ++ (asked ++ deeds)
       → AllByRecursion ChangesNothing asked
       → MayBeWritten places target over asked → Done target over bytes outcome deeds → SparesFiles places was now
   put_spares over bytes outcome asked deeds k quiet may done = record {
@@ -276,16 +276,16 @@ module _ {D : Type 0} (places : Places) (target : List ℕ) (out : List ℕ) (wa
   pub asked_history : (asked deeds between : List (DeskDeed D)) → between ≡ mid ++ asked → now ≡ between ++ deeds → now ≡ mid ++ (asked ++ deeds)
   asked_history asked deeds between k l = l ∙ ap (λ x. x ++ deeds) k ∙ append_assoc mid asked deeds
 
-  pub spares_result : (bytes : List ℕ) (outcome : Outcome) → WritesTo places target bytes outcome mid now → SparesFiles places was now
+  pub spares_result : (bytes : List ℕ) (outcome : PutOutcome) → WritesTo places target bytes outcome mid now → SparesFiles places was now
   spares_result bytes outcome (inl h) = quiet_spares h.2.since h.2.history h.2.changes_nothing
   spares_result bytes outcome (inr h) =
       let done = done_of target h.over bytes outcome h.mid now h.puts in
       put_spares h.over bytes outcome h.asks.since done.0 (asked_history h.asks.since done.0 h.mid h.asks.history done.1)
       h.asks.changes_nothing h.asks.known done.2
 
-  written_by : (over : Bool) (bytes : List ℕ) (outcome : Outcome) (asked deeds : List (DeskDeed D)) → outcome ≡ Ok tt → now ≡ mid ++ (asked ++ deeds)
+  written_by : (over : Bool) (bytes : List ℕ) (outcome : PutOutcome) (asked deeds : List (DeskDeed D)) → outcome ≡ Ok tt → now ≡ mid ++ (asked ++ deeds)
       → AllByRecursion ChangesNothing asked
-      → Done target over bytes outcome deeds → Writes places bytes was now
+      → Done target over bytes outcome deeds → WritesTarget places bytes was now
   written_by over bytes outcome asked deeds is k quiet (not_made fault d o) = absurd (cc)
   written_by over bytes outcome asked deeds is k quiet (unkept d o) = absurd (cc)
   written_by over bytes outcome asked deeds is k quiet (taken_away fault answer other d o) = absurd (not_removed fault answer (sym o ∙ is))
@@ -300,7 +300,8 @@ module _ {D : Type 0} (places : Places) (target : List ℕ) (out : List ℕ) (wa
     names = naming_names target over (Ok tt);
   }
 
-  pub written_result : (bytes : List ℕ) (outcome : Outcome) → outcome ≡ Ok tt → WritesTo places target bytes outcome mid now → Writes places bytes was now
+  pub written_result : (bytes : List ℕ) (outcome : PutOutcome) → outcome ≡ Ok tt → WritesTo places target bytes outcome mid now
+      → WritesTarget places bytes was now
   written_result bytes outcome is (inl h) = absurd (ok_is_no_err h.0 (sym is ∙ h.1))
   written_result bytes outcome is (inr h) =
       let done = done_of target h.over bytes outcome h.mid now h.puts in
@@ -336,7 +337,7 @@ module _ {D : Type 0} (places : Places) (target : List ℕ) (out : List ℕ) (wa
         );
   }
 
-  pub refused_result : (fault : ResultFault) (bytes : List ℕ) (outcome : Outcome) → MatchOption fault.target ⊥ (λ name. string_bytes name ≡ target)
+  pub refused_result : (fault : ResultFault) (bytes : List ℕ) (outcome : PutOutcome) → MatchOption fault.target ⊥ (λ name. string_bytes name ≡ target)
       → outcome ≡ Err fault.why
       → WritesTo places target bytes outcome mid now → Refuses places fault was now
   refused_result fault bytes outcome same is (inl h) =

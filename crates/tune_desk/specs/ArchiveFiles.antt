@@ -8,7 +8,8 @@ use Rattle.tune_disk.specs.declared.file.Access.TheVariants.{Change}
 use Rattle.tune_desk.specs.DeskDeeds.{DeskDeed, followed, made, named, named_over, removed, opened}
 use Rattle.tune_desk.specs.DeskDeeds.{closed, grown, created, linked, shared, ChangesNothing}
 use Rattle.tune_desk.specs.KeptNames.{IsNumbered}
-use Rattle.tune_desk.specs.Results.{EachAfter, IsOwn, Leaves, MayGrow, new_of, old_of, places_of}
+use Rattle.tune_desk.specs.Results.{EachAfter, IsOwn, LeavesFile, MayGrow, new_of, old_of}
+use Rattle.tune_desk.specs.Results.{result_places}
 
 -- FILE was found to lead to this TARGET.
 abbrev pub FileLeads : {D : Type 0} → List ℕ → List ℕ → List (DeskDeed D) → Type 0
@@ -39,7 +40,7 @@ pub record IsPutAside {D : Type 0} (target : List ℕ) (before : List (DeskDeed 
   pub since : List (DeskDeed D)
   pub is_aside : IsAside target aside
   pub history : before ≡ earlier ++ linked target aside (Ok tt) ∷ since
-  pub left : AllByRecursion (λ deed. Leaves target deed × Leaves aside deed) since
+  pub left : AllByRecursion (λ deed. LeavesFile target deed × LeavesFile aside deed) since
 
 -- Whether an order keeps an entry of what it makes, which may then grow at the end of the book of
 -- old texts of FILE, or leaves that book as it is.
@@ -53,7 +54,7 @@ pub data Keeping : Type 0 where
 abbrev pub MayKeep : {D : Type 0} → Keeping → List ℕ → List (DeskDeed D) → List ℕ → Type 0
 MayKeep KeepsNone file before path = ⊥
 MayKeep KeepsEntry file before path =
-    (path ≡ old_of file) × MayGrow (places_of file None false) path before
+    (path ≡ old_of file) × MayGrow (result_places file None false) path before
 
 -- A deed makes an archive: TARGET.new is made, and named TARGET, which nothing has; or it is named
 -- over what stands at TARGET, which is held, and was put aside. Else TARGET.new is taken away. All

@@ -29,29 +29,29 @@ abbrev pub naming_of : {D : Type 0} → List ℕ → Bool → Answer → DeskDee
 naming_of target true answer = named_over (new_of target) target answer
 naming_of target false answer = named (new_of target) target answer
 
-abbrev pub Outcome : Type 0
-Outcome = Result (Unit {0}) ResultRefusal
+abbrev pub PutOutcome : Type 0
+PutOutcome = Result (Unit {0}) ResultRefusal
 
 -- TARGET.new was not named, and is taken away
-abbrev pub refusal_of_removal : DeskFault → Answer → Outcome
+abbrev pub refusal_of_removal : DeskFault → Answer → PutOutcome
 refusal_of_removal fault (Ok done) = Err (NotNamed fault)
 refusal_of_removal fault (Err left) = Err (Left left)
 
-pub record TakesAway {D : Type 0} (path : List ℕ) (fault : DeskFault) (outcome : Outcome)
+pub record TakesAway {D : Type 0} (path : List ℕ) (fault : DeskFault) (outcome : PutOutcome)
     (was now : List (DeskDeed D)) : Type 0 where
   pub answer : Answer
   pub history : now ≡ was ++ removed path answer ∷ []
   pub told : outcome ≡ refusal_of_removal fault answer
 
 -- TARGET.new is named: with this answer, and what comes of it
-abbrev pub AfterNaming : {D : Type 0} → List ℕ → Answer → Outcome → List (DeskDeed D)
+abbrev pub AfterNaming : {D : Type 0} → List ℕ → Answer → PutOutcome → List (DeskDeed D)
     → List (DeskDeed D) → Type 0
 AfterNaming target (Ok done) outcome was now = (outcome ≡ Ok tt) × (now ≡ was)
 AfterNaming target (Err fault) outcome was now =
     ((fault ≡ desk.Unkept) × (outcome ≡ Err Unkept) × (now ≡ was))
     ⊎ ((fault ≢ desk.Unkept) × TakesAway (new_of target) fault outcome was now)
 
-pub record NamesNew {D : Type 0} (target : List ℕ) (over : Bool) (outcome : Outcome)
+pub record NamesNew {D : Type 0} (target : List ℕ) (over : Bool) (outcome : PutOutcome)
     (was now : List (DeskDeed D)) : Type 0 where
   pub answer : Answer
   pub after : AfterNaming target answer outcome (was ++ naming_of target over answer ∷ []) now

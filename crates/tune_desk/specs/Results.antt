@@ -19,8 +19,8 @@ pub record Places : Type 0 where
   pub out : Option (List ℕ)
   pub force : Bool
 
-abbrev pub places_of : List ℕ → Option (List ℕ) → Bool → Places
-places_of file out force = record { file = file; out = out; force = force }
+abbrev pub result_places : List ℕ → Option (List ℕ) → Bool → Places
+result_places file out force = record { file = file; out = out; force = force }
 
 -- OUT was found to lead to this TARGET.
 pub record LeadsTo {D : Type 0} (places : Places) (target : List ℕ) (before : List (DeskDeed D))
@@ -62,15 +62,15 @@ KeepsTo places before (shared path like answer) =
 KeepsTo places before deed = Unit {0}
 
 -- IN WHICH ORDER. Two paths were compared, and do not lead to one file or folder.
-abbrev pub AreApart : {D : Type 0} → List ℕ → List ℕ → List (DeskDeed D) → Type 0
-AreApart path other before = Contains before (compared path other (Ok false))
+abbrev pub AreFoundApart : {D : Type 0} → List ℕ → List ℕ → List (DeskDeed D) → Type 0
+AreFoundApart path other before = Contains before (compared path other (Ok false))
     ⊎ Contains before (compared path other (Err Missing))
 
 -- A path is neither an archive's path nor a name that is kept for it: another name, or in another
 -- folder.
 abbrev pub SparesNames : {D : Type 0} → List ℕ → List ℕ → List (DeskDeed D) → Type 0
 SparesNames path file before = IsNamesake path file ⊎ IsKeptName path file
-    → AreApart (folder_of path) (folder_of file) before
+    → AreFoundApart (folder_of path) (folder_of file) before
 
 -- So it is of FILE, and of the path to which FILE leads.
 pub record SparesArchive {D : Type 0} (places : Places) (target : List ℕ)
@@ -86,23 +86,23 @@ pub record MayBeReplaced {D : Type 0} (places : Places) (target : List ℕ)
     (before : List (DeskDeed D)) : Type 0 where
   pub leave : places.force ≡ true
   pub stands : Contains before (looked target (Ok standing.File))
-  pub other : AreApart target places.file before
+  pub other : AreFoundApart target places.file before
   pub no_archive : Contains before (tested target archive_head (Ok false))
 
 -- The book at a path may grow: nothing stands there; or a regular file does, which is not FILE by
 -- any name, and does not begin as an archive.
 abbrev pub MayGrow : {D : Type 0} → Places → List ℕ → List (DeskDeed D) → Type 0
 MayGrow places path before = Contains before (looked path (Ok standing.Nothing))
-    ⊎ (Contains before (looked path (Ok standing.File)) × AreApart path places.file before
+    ⊎ (Contains before (looked path (Ok standing.File)) × AreFoundApart path places.file before
     × Contains before (tested path archive_head (Ok false)))
 
 -- A deed leaves the file at a path as it is, byte for byte. A naming that failed left both paths as
 -- they were.
-abbrev pub Leaves : {D : Type 0} → List ℕ → DeskDeed D → Type 0
-Leaves path (named from to (Err fault)) = fault ≢ Unkept
-Leaves path (named_over from to (Err fault)) = fault ≢ Unkept
-Leaves path (shared other like answer) = Unit {0}
-Leaves path deed = ¬ Contains (changed_by deed) path
+abbrev pub LeavesFile : {D : Type 0} → List ℕ → DeskDeed D → Type 0
+LeavesFile path (named from to (Err fault)) = fault ≢ Unkept
+LeavesFile path (named_over from to (Err fault)) = fault ≢ Unkept
+LeavesFile path (shared other like answer) = Unit {0}
+LeavesFile path deed = ¬ Contains (changed_by deed) path
 
 -- A deed made the file at a path, where nothing stood: of bytes, or as a disk.
 abbrev pub IsMaking : {D : Type 0} → List ℕ → DeskDeed D → Type 0
@@ -116,7 +116,7 @@ pub record IsOwn {D : Type 0} (path : List ℕ) (before : List (DeskDeed D)) : T
   pub since : List (DeskDeed D)
   pub makes : IsMaking path making
   pub history : before ≡ earlier ++ making ∷ since
-  pub left : AllByRecursion (Leaves path) since
+  pub left : AllByRecursion (LeavesFile path) since
 
 -- A deed comes in order: nothing is named or taken away but what is the order's own, nothing is
 -- made or named where a name is kept for the archive, a file is written over where it may be, and
@@ -155,7 +155,8 @@ Names target answer deed = (deed ≡ named (new_of target) target answer)
     ⊎ (deed ≡ named_over (new_of target) target answer)
 
 -- After what changed nothing, TARGET.new was made of just these bytes, and got the name TARGET.
-pub record Writes {D : Type 0} (places : Places) (bytes : List ℕ) (was now : List (DeskDeed D))
+pub record WritesTarget {D : Type 0} (places : Places) (bytes : List ℕ)
+    (was now : List (DeskDeed D))
     : Type 0 where
   pub target : List ℕ
   pub asked : List (DeskDeed D)

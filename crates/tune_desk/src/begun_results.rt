@@ -4,7 +4,7 @@ ghost use Rattle.tune_desk.specs.BegunResults.{IsBegun, NamesNew};
 ghost use Rattle.tune_desk.specs.Inside.Begins.{BeginsAt};
 ghost use Rattle.tune_desk.specs.Inside.Puts.{refusal_of_making};
 ghost use Rattle.tune_desk.specs.Refusals.{Refuses};
-ghost use Rattle.tune_desk.specs.Results.{SparesFiles, places_of, new_of};
+ghost use Rattle.tune_desk.specs.Results.{SparesFiles, result_places, new_of};
 
 use crate::putting::name_new;
 use crate::result_checks::may_be_written;
@@ -42,17 +42,17 @@ pub fn begin_result<D: Disk, K: Desk<Disk = D>>(
     force: bool,
 ) -> Result<BegunResult<D>, ResultFault>
     ensures begun { let out_path = Some (string_bytes out.now) in
-        let places = places_of (string_bytes file.now) out_path force in
+        let places = result_places (string_bytes file.now) out_path force in
         IfOk result (λ begun. IsBegun places (string_bytes begun.place.target) begun.place.over
         (K.deeds desk.old) (K.deeds desk.new)) }
     ensures new { IfOk result (λ begun. string_bytes begun.place.new
         ≡ new_of (string_bytes begun.place.target)) }
     ensures is_new { IfOk result (λ begun. K.is_new begun.disk) }
     ensures files { let out_path = Some (string_bytes out.now) in
-        let places = places_of (string_bytes file.now) out_path force in
+        let places = result_places (string_bytes file.now) out_path force in
         SparesFiles places (K.deeds desk.old) (K.deeds desk.new) }
     ensures refused { let out_path = Some (string_bytes out.now) in
-        let places = places_of (string_bytes file.now) out_path force in
+        let places = result_places (string_bytes file.now) out_path force in
         IfErr result (λ fault. Refuses places fault (K.deeds desk.old) (K.deeds desk.new)) }
 {
     let target = match desk.follow(alloc, out) {
@@ -93,7 +93,7 @@ fn begin_at<D: Disk, K: Desk<Disk = D>>(
     force: bool,
 ) -> Result<NewDisk<D>, ResultRefusal>
     ensures begins { (out : Option (List ℕ)) → let target = string_bytes target.now in
-        let places = places_of (string_bytes file.now) out force in
+        let places = result_places (string_bytes file.now) out force in
         BeginsAt places target result (K.deeds desk.old) (K.deeds desk.new) }
     ensures is_new { IfOk result (λ begun. K.is_new begun.disk) }
 {

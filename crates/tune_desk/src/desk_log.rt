@@ -4,7 +4,7 @@ ghost use Rattle.tune_desk.specs.DeskDeeds.{looked, compared, tested, followed, 
 ghost use Rattle.tune_desk.specs.DeskDeeds.{made, named, named_over, removed, opened, closed};
 ghost use Rattle.tune_desk.specs.DeskDeeds.{grown, created, linked, shared};
 ghost use Rattle.tune_desk.specs.DeskDeeds.{path_of, names_of};
-ghost use Rattle.tune_desk.specs.DeskLog.{deeds_of, bytes_of};
+ghost use Rattle.tune_desk.specs.DeskLog.{desk_deeds_of, bytes_of};
 
 use crate::{DeskFault, Standing};
 use abc_fields::ByteText;
@@ -54,22 +54,22 @@ fn told_bytes(bytes: &[u8]) -> Log<u8, ()>
 impl<D: Drop> DeskLog<D> {
     /// Nothing yet.
     pub fn new() -> DeskLog<D>
-        ensures { deeds_of result ≡ [] }
+        ensures { desk_deeds_of result ≡ [] }
     {
         DeskLog { log: Log::new() }
     }
 
     /// It was asked what stands at a path, with this answer.
     pub fn look(&mut self, path: &String, answer: &Result<Standing, DeskFault>)
-        ensures { deeds_of self.new
-            ≡ deeds_of self.old ++ looked (string_bytes path.now) answer.now ∷ [] }
+        ensures { desk_deeds_of self.new
+            ≡ desk_deeds_of self.old ++ looked (string_bytes path.now) answer.now ∷ [] }
     {
         self.log = self.log.and(path, &Told::Looked(Snapshot::of(answer)));
     }
 
     /// It was asked whether two paths lead to one file or folder, with this answer.
     pub fn is_same(&mut self, path: &String, other: &String, answer: &Result<bool, DeskFault>)
-        ensures { deeds_of self.new ≡ deeds_of self.old
+        ensures { desk_deeds_of self.new ≡ desk_deeds_of self.old
             ++ compared (string_bytes path.now) (string_bytes other.now) answer.now ∷ [] }
     {
         self.log = self.log.and(
@@ -80,40 +80,40 @@ impl<D: Drop> DeskLog<D> {
 
     /// It was asked whether a file begins with these bytes, with this answer.
     pub fn begins(&mut self, path: &String, with: &[u8], answer: &Result<bool, DeskFault>)
-        ensures { deeds_of self.new
-            ≡ deeds_of self.old ++ tested (string_bytes path.now) with.now answer.now ∷ [] }
+        ensures { desk_deeds_of self.new
+            ≡ desk_deeds_of self.old ++ tested (string_bytes path.now) with.now answer.now ∷ [] }
     {
         self.log = self.log.and(path, &Told::Tested(told_bytes(with), Snapshot::of(answer)));
     }
 
     /// A path was followed, with this answer.
     pub fn follow(&mut self, path: &String, answer: &Result<String, DeskFault>)
-        ensures { deeds_of self.new
-            ≡ deeds_of self.old ++ followed (string_bytes path.now) (path_of answer.now) ∷ [] }
+        ensures { desk_deeds_of self.new
+            ≡ desk_deeds_of self.old ++ followed (string_bytes path.now) (path_of answer.now) ∷ [] }
     {
         self.log = self.log.and(path, &Told::Followed(Snapshot::of(answer)));
     }
 
     /// A file was read, with this answer.
     pub fn read(&mut self, path: &String, answer: &Result<ByteText, DeskFault>)
-        ensures { deeds_of self.new
-            ≡ deeds_of self.old ++ read (string_bytes path.now) answer.now ∷ [] }
+        ensures { desk_deeds_of self.new
+            ≡ desk_deeds_of self.old ++ read (string_bytes path.now) answer.now ∷ [] }
     {
         self.log = self.log.and(path, &Told::Read(Snapshot::of(answer)));
     }
 
     /// The names in a folder were asked for, with this answer.
     pub fn names(&mut self, path: &String, answer: &Result<Vec<String>, DeskFault>)
-        ensures { deeds_of self.new
-            ≡ deeds_of self.old ++ listed (string_bytes path.now) (names_of answer.now) ∷ [] }
+        ensures { desk_deeds_of self.new
+            ≡ desk_deeds_of self.old ++ listed (string_bytes path.now) (names_of answer.now) ∷ [] }
     {
         self.log = self.log.and(path, &Told::Listed(Snapshot::of(answer)));
     }
 
     /// A file was made of these bytes, with this answer.
     pub fn make(&mut self, path: &String, bytes: &[u8], answer: &Result<(), DeskFault>)
-        ensures { deeds_of self.new
-            ≡ deeds_of self.old ++ made (string_bytes path.now) bytes.now answer.now ∷ [] }
+        ensures { desk_deeds_of self.new
+            ≡ desk_deeds_of self.old ++ made (string_bytes path.now) bytes.now answer.now ∷ [] }
     {
         self.log = self
             .log
@@ -122,7 +122,7 @@ impl<D: Drop> DeskLog<D> {
 
     /// A file was named, with this answer.
     pub fn name(&mut self, from: &String, to: &String, answer: &Result<(), DeskFault>)
-        ensures { deeds_of self.new ≡ deeds_of self.old
+        ensures { desk_deeds_of self.new ≡ desk_deeds_of self.old
             ++ named (string_bytes from.now) (string_bytes to.now) answer.now ∷ [] }
     {
         self.log = self
@@ -132,7 +132,7 @@ impl<D: Drop> DeskLog<D> {
 
     /// A file was named in the place of another, with this answer.
     pub fn name_over(&mut self, from: &String, to: &String, answer: &Result<(), DeskFault>)
-        ensures { deeds_of self.new ≡ deeds_of self.old
+        ensures { desk_deeds_of self.new ≡ desk_deeds_of self.old
             ++ named_over (string_bytes from.now) (string_bytes to.now) answer.now ∷ [] }
     {
         self.log = self.log.and(
@@ -143,16 +143,16 @@ impl<D: Drop> DeskLog<D> {
 
     /// A file was taken away, with this answer.
     pub fn remove(&mut self, path: &String, answer: &Result<(), DeskFault>)
-        ensures { deeds_of self.new
-            ≡ deeds_of self.old ++ removed (string_bytes path.now) answer.now ∷ [] }
+        ensures { desk_deeds_of self.new
+            ≡ desk_deeds_of self.old ++ removed (string_bytes path.now) answer.now ∷ [] }
     {
         self.log = self.log.and(path, &Told::Removed(Snapshot::of(answer)));
     }
 
     /// A file was opened, with this answer.
     pub fn open(&mut self, path: &String, access: Access, answer: &Result<D, DeskFault>)
-        ensures { deeds_of self.new
-            ≡ deeds_of self.old ++ opened (string_bytes path.now) access answer.now ∷ [] }
+        ensures { desk_deeds_of self.new
+            ≡ desk_deeds_of self.old ++ opened (string_bytes path.now) access answer.now ∷ [] }
     {
         self.log = self.log.and(
             path,
@@ -162,31 +162,31 @@ impl<D: Drop> DeskLog<D> {
 
     /// This disk was closed.
     pub fn close(&mut self, path: &String, disk: &D)
-        ensures { deeds_of self.new
-            ≡ deeds_of self.old ++ closed (string_bytes path.now) disk.now ∷ [] }
+        ensures { desk_deeds_of self.new
+            ≡ desk_deeds_of self.old ++ closed (string_bytes path.now) disk.now ∷ [] }
     {
         self.log = self.log.and(path, &Told::Closed(Snapshot::of(disk)));
     }
 
     /// Bytes were put at the end of a file, with this answer.
     pub fn grow(&mut self, path: &String, bytes: &[u8], answer: &Result<(), DeskFault>)
-        ensures { deeds_of self.new
-            ≡ deeds_of self.old ++ grown (string_bytes path.now) bytes.now answer.now ∷ [] }
+        ensures { desk_deeds_of self.new
+            ≡ desk_deeds_of self.old ++ grown (string_bytes path.now) bytes.now answer.now ∷ [] }
     {
         self.log = self.log.and(path, &Told::Grown(told_bytes(bytes), Snapshot::of(answer)));
     }
 
     /// An empty file was made and opened, with this answer.
     pub fn create(&mut self, path: &String, answer: &Result<D, DeskFault>)
-        ensures { deeds_of self.new
-            ≡ deeds_of self.old ++ created (string_bytes path.now) answer.now ∷ [] }
+        ensures { desk_deeds_of self.new
+            ≡ desk_deeds_of self.old ++ created (string_bytes path.now) answer.now ∷ [] }
     {
         self.log = self.log.and(path, &Told::Created(Snapshot::of(answer)));
     }
 
     /// A file got one name more, with this answer.
     pub fn link(&mut self, from: &String, to: &String, answer: &Result<(), DeskFault>)
-        ensures { deeds_of self.new ≡ deeds_of self.old
+        ensures { desk_deeds_of self.new ≡ desk_deeds_of self.old
             ++ linked (string_bytes from.now) (string_bytes to.now) answer.now ∷ [] }
     {
         self.log = self.log.and(from, &Told::Linked(Snapshot::of(to), Snapshot::of(answer)));
@@ -194,7 +194,7 @@ impl<D: Drop> DeskLog<D> {
 
     /// A file was shared as another is, with this answer.
     pub fn share(&mut self, path: &String, like: &String, answer: &Result<(), DeskFault>)
-        ensures { deeds_of self.new ≡ deeds_of self.old
+        ensures { desk_deeds_of self.new ≡ desk_deeds_of self.old
             ++ shared (string_bytes path.now) (string_bytes like.now) answer.now ∷ [] }
     {
         self.log = self.log.and(

@@ -4,7 +4,7 @@ ghost use Rattle.tune_desk.specs.Inside.Asks.{Asks};
 ghost use Rattle.tune_desk.specs.Inside.Growths.{FindsOld, KnowsOther, KnowsNoArchive};
 ghost use Rattle.tune_desk.specs.Inside.Growths.{KnowsNothing};
 ghost use Rattle.tune_desk.specs.OldTexts.{Grows, GrowsNot, IsPieceOf};
-ghost use Rattle.tune_desk.specs.Results.{SparesFiles, places_of};
+ghost use Rattle.tune_desk.specs.Results.{SparesFiles, result_places};
 
 use crate::{Desk, DeskFault, Standing};
 use memchr::memmem;
@@ -43,7 +43,7 @@ pub fn grow_old_texts<K: Desk>(
     file: &String,
     bytes: &[u8],
 ) -> Result<(), OldTextsFault>
-    ensures files { SparesFiles (places_of (string_bytes file.now) None false)
+    ensures files { SparesFiles (result_places (string_bytes file.now) None false)
         (K.deeds desk.old) (K.deeds desk.new) }
     ensures grown { IfOk result (λ _. Grows (string_bytes file.now) bytes.now
         (K.deeds desk.old) (K.deeds desk.new)) }

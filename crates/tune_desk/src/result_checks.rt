@@ -3,7 +3,7 @@ ghost use Rattle.std.specs.Prelude.{ℕ, Bool, List, Option, string_bytes};
 ghost use Rattle.tune_desk.specs.Inside.Asks.{Asks, Judges, KnowsStanding, MayBeWritten};
 ghost use Rattle.tune_desk.specs.Inside.Asks.{TellsSame, TellsNames, TellsHeld};
 ghost use Rattle.tune_desk.specs.KeptNames.{folder_of};
-ghost use Rattle.tune_desk.specs.Results.{Places, places_of, SparesArchive};
+ghost use Rattle.tune_desk.specs.Results.{Places, result_places, SparesArchive};
 
 use crate::kept_names::{Kinship, folder_of, kinship_of};
 use crate::{Desk, DeskFault, ResultRefusal, Standing};
@@ -21,7 +21,7 @@ pub(crate) fn may_be_written<K: Desk>(
     force: bool,
 ) -> Result<bool, ResultRefusal>
     ensures { (out : Option (List ℕ)) → let target = string_bytes target.now in
-        let places = places_of (string_bytes file.now) out force in
+        let places = result_places (string_bytes file.now) out force in
         Asks (Judges places target (MayBeWritten places target) result)
         (K.deeds desk.old) (K.deeds desk.new) }
 {
@@ -78,7 +78,7 @@ fn spare_archive<K: Desk>(
     target: &String,
 ) -> Result<(), ResultRefusal>
     ensures { (out : Option (List ℕ)) (force : Bool) → let target = string_bytes target.now in
-        let places = places_of (string_bytes file.now) out force in
+        let places = result_places (string_bytes file.now) out force in
         Asks (Judges places target (λ _ since. SparesArchive places target since) result)
         (K.deeds desk.old) (K.deeds desk.new) }
 {
@@ -153,7 +153,7 @@ fn spare_standing<K: Desk>(
     force: bool,
 ) -> Result<(), ResultRefusal>
     ensures { (out : Option (List ℕ)) → let target = string_bytes target.now in
-        let places = places_of (string_bytes file.now) out force in
+        let places = result_places (string_bytes file.now) out force in
         Asks (TellsHeld places target result) (K.deeds desk.old) (K.deeds desk.new) }
 {
     if are_same(desk, target, file)? {

@@ -2,7 +2,7 @@
 ghost use Rattle.std.specs.Prelude.{ℕ, List, Option, Some, IfOk, IfErr, string_bytes};
 ghost use Rattle.tune_desk.specs.Inside.Puts.{WritesTo};
 ghost use Rattle.tune_desk.specs.Refusals.{Refuses};
-ghost use Rattle.tune_desk.specs.Results.{SparesFiles, Writes, places_of};
+ghost use Rattle.tune_desk.specs.Results.{SparesFiles, WritesTarget, result_places};
 
 use crate::putting::put;
 use crate::result_checks::may_be_written;
@@ -26,13 +26,13 @@ pub fn write_result<K: Desk>(
     bytes: &[u8],
 ) -> Result<(), ResultFault>
     ensures files { let out_path = Some (string_bytes out.now) in
-        let places = places_of (string_bytes file.now) out_path force in
+        let places = result_places (string_bytes file.now) out_path force in
         SparesFiles places (K.deeds desk.old) (K.deeds desk.new) }
     ensures written { let out_path = Some (string_bytes out.now) in
-        let places = places_of (string_bytes file.now) out_path force in
-        IfOk result (λ _. Writes places bytes.now (K.deeds desk.old) (K.deeds desk.new)) }
+        let places = result_places (string_bytes file.now) out_path force in
+        IfOk result (λ _. WritesTarget places bytes.now (K.deeds desk.old) (K.deeds desk.new)) }
     ensures refused { let out_path = Some (string_bytes out.now) in
-        let places = places_of (string_bytes file.now) out_path force in
+        let places = result_places (string_bytes file.now) out_path force in
         IfErr result (λ fault. Refuses places fault (K.deeds desk.old) (K.deeds desk.new)) }
 {
     let target = match desk.follow(alloc, out) {
@@ -63,7 +63,7 @@ fn write_to<K: Desk>(
     bytes: &[u8],
 ) -> Result<(), ResultRefusal>
     ensures { (out : Option (List ℕ)) → let target = string_bytes target.now in
-        let places = places_of (string_bytes file.now) out force in
+        let places = result_places (string_bytes file.now) out force in
         WritesTo places target bytes.now result (K.deeds desk.old) (K.deeds desk.new) }
 {
     let over = may_be_written(alloc, desk, file, target, force)?;

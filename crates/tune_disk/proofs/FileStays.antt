@@ -3,7 +3,7 @@ use Rattle.std.specs.Prelude.{ℕ, List, [], ◌∷◌, length}
 use Rattle.std.proofs.Common.{◌∙◌, arith}
 use Rattle.tune_disk.specs.Disk.{Medium, MayLeave, Torn, touched}
 use Rattle.tune_disk.specs.Inside.MayStay.{TellingMayStay}
-use Rattle.tune_disk.specs.FileTold.{History, Course, told, course, at_opening, AnswerFits}
+use Rattle.tune_disk.specs.FileTold.{History, Course, told_at, course, at_opening, AnswerFits}
 use Rattle.tune_disk.specs.FileTold.{AnswersFit}
 use Rattle.tune_disk.proofs.Overwrites.{length_after_rises, put_written}
 use Rattle.tune_disk.proofs.Stays.{written_stays, settled_stays}
@@ -22,7 +22,7 @@ torn_stays m at n old new stays torn =
     }
 
 told_stays : (h : History) (at : ℕ) (one : Told) (c : Course) → MayLeave c.state.now c.state.seen
-    → AnswerFits h c at one → MayLeave (told h at one c).state.now (told h at one c).state.seen
+    → AnswerFits h c at one → MayLeave (told_at h at one c).state.now (told_at h at one c).state.seen
 told_stays h at (Length n) c stays fits = stays
 told_stays h at (Byte b) c stays fits = stays
 told_stays h at Ended c stays fits = stays
@@ -38,7 +38,7 @@ course_stays : (h : History) (c : Course) (all : List (ℕ × Told))
     → MayLeave (course h c all).state.now (course h c all).state.seen
 course_stays h c [] stays fit = stays
 course_stays h c (one ∷ more) stays fit =
-    let after = told h one.0 one.1 c in
+    let after = told_at h one.0 one.1 c in
     course_stays h after more (told_stays h one.0 one.1 c stays fit.0) fit.1
 
 -- whatever a file told

@@ -5,7 +5,7 @@ use Rattle.std.proofs.lemmas.List.{take_more}
 use Rattle.tune_disk.specs.ByteWrites.{put}
 use Rattle.tune_disk.specs.Disk.{Medium, DiskState, MayLeave, Written, GoesTo, Writes, Syncs, fresh, touched}
 use Rattle.tune_disk.proofs.Overwrites.{put_written}
-use Rattle.tune_disk.specs.Records.{record_to, replayed, state_of}
+use Rattle.tune_disk.specs.Records.{record_to, replayed, state_of_records}
 use Rattle.tune_disk.specs.declared.memory.Record.{Record}
 use Rattle.tune_disk.specs.declared.memory.Record.TheVariants.{Write, Sync}
 use Rattle.tune_disk.proofs.Writes.{written_once}
@@ -21,24 +21,24 @@ one_more records i one s lt is =
     ap (λ (l : List Record). replayed l s) (take_more records i one lt ∙ ap (λ (x : Record). take i records ++ x ∷ []) (sym is))
     ∙ replayed_more (take i records) one s
 
-module _ (first content : List ℕ) (old new : List Record) (kept : content ≡ (state_of first old).seen) where
-  unchanged_seen : new ≡ old → content ≡ (state_of first new).seen
-  unchanged_seen is = kept ∙ sym (ap (λ (l : List Record). (state_of first l).seen) is)
+module _ (first content : List ℕ) (old new : List Record) (kept : content ≡ (state_of_records first old).seen) where
+  unchanged_seen : new ≡ old → content ≡ (state_of_records first new).seen
+  unchanged_seen is = kept ∙ sym (ap (λ (l : List Record). (state_of_records first l).seen) is)
 
   -- A sync.
-  after_sync_is : new ≡ old ++ Sync ∷ [] → state_of first new ≡ record_to Sync (state_of first old)
-  after_sync_is is = ap (state_of first) is ∙ replayed_more old Sync (fresh first)
+  after_sync_is : new ≡ old ++ Sync ∷ [] → state_of_records first new ≡ record_to Sync (state_of_records first old)
+  after_sync_is is = ap (state_of_records first) is ∙ replayed_more old Sync (fresh first)
 
-  pub sync_kept : {T E : Type 0} (r : Result T E) → OnOk r (new ≡ old ++ Sync ∷ []) → OnErr r (new ≡ old) → content ≡ (state_of first new).seen
+  pub sync_kept : {T E : Type 0} (r : Result T E) → OnOk r (new ≡ old ++ Sync ∷ []) → OnErr r (new ≡ old) → content ≡ (state_of_records first new).seen
   sync_kept (Ok t) ok err = kept ∙ sym (ap (λ (s : DiskState). s.seen) (after_sync_is ok))
   sync_kept (Err e) ok err = unchanged_seen err
 
   pub sync_done : {T E T' E' : Type 0} (r : Result T E) (r' : Result T' E') → is_ok r' ≡ is_ok r → OnOk r (new ≡ old ++ Sync ∷ [])
-      → OnErr r (new ≡ old) → Syncs r' (state_of first old) (state_of first new)
+      → OnErr r (new ≡ old) → Syncs r' (state_of_records first old) (state_of_records first new)
   sync_done (Ok t) (Ok t') same ok err =
       let is = after_sync_is ok in
       (ap (λ (s : DiskState). s.seen) is, record { now = ap (λ (s : DiskState). s.now) is; past = ap (λ (s : DiskState). s.past) is })
-  sync_done (Err e) (Err e') same ok err = ap (state_of first) err
+  sync_done (Err e) (Err e') same ok err = ap (state_of_records first) err
   sync_done (Ok t) (Err e') same ok err = cc
   sync_done (Err e) (Ok t') same ok err = cc
 
@@ -47,32 +47,32 @@ module _ (first content : List ℕ) (old new : List Record) (kept : content ≡ 
     abbrev IsRecorded : Type 0
     IsRecorded = (v : Vec ℕ Global) × (v.items ≡ bytes) × (new ≡ old ++ Write at v ∷ [])
 
-    is_put : (recorded : IsRecorded) → state_of first new ≡ record_to (Write at recorded.0) (state_of first old)
-    is_put recorded = ap (state_of first) recorded.2 ∙ replayed_more old (Write at recorded.0) (fresh first)
+    is_put : (recorded : IsRecorded) → state_of_records first new ≡ record_to (Write at recorded.0) (state_of_records first old)
+    is_put recorded = ap (state_of_records first) recorded.2 ∙ replayed_more old (Write at recorded.0) (fresh first)
 
-    seen_is : IsRecorded → (state_of first new).seen ≡ put at bytes (state_of first old).seen
-    seen_is recorded = ap (λ (s : DiskState). s.seen) (is_put recorded) ∙ ap (λ (b : List ℕ). put at b (state_of first old).seen) recorded.1
+    seen_is : IsRecorded → (state_of_records first new).seen ≡ put at bytes (state_of_records first old).seen
+    seen_is recorded = ap (λ (s : DiskState). s.seen) (is_put recorded) ∙ ap (λ (b : List ℕ). put at b (state_of_records first old).seen) recorded.1
 
     pub write_kept : {T E : Type 0} (r : Result T E) → OnOk r (Written at bytes content content') → OnErr r (content' ≡ content)
-        → OnOk r IsRecorded → OnErr r (new ≡ old) → content' ≡ (state_of first new).seen
+        → OnOk r IsRecorded → OnErr r (new ≡ old) → content' ≡ (state_of_records first new).seen
     write_kept (Ok t) w same recorded unchanged =
-        let put_is : put at bytes content ≡ (state_of first new).seen = ap (put at bytes) kept ∙ sym (seen_is recorded) in
+        let put_is : put at bytes content ≡ (state_of_records first new).seen = ap (put at bytes) kept ∙ sym (seen_is recorded) in
         written_once at bytes content content' _ w (subst (Written at bytes content) put_is (put_written at bytes content))
     write_kept (Err e) w same recorded unchanged = same ∙ unchanged_seen unchanged
 
     pub write_done : {T E T' E' : Type 0} (r : Result T E) (r' : Result T' E') → is_ok r' ≡ is_ok r → OnOk r IsRecorded → OnErr r (new ≡ old)
-        → Writes at bytes r' (state_of first old) (state_of first new)
+        → Writes at bytes r' (state_of_records first old) (state_of_records first new)
     write_done (Ok t) (Ok t') same recorded unchanged =
-        let s = state_of first old in
+        let s = state_of_records first old in
         let is = is_put recorded in
-        let goes : GoesTo (touched at (length recorded.0.items) s.now) s (state_of first new) = record {
+        let goes : GoesTo (touched at (length recorded.0.items) s.now) s (state_of_records first new) = record {
           now = ap (λ (t : DiskState). t.now) is;
           past = ap (λ (t : DiskState). t.past) is;
         } in (
           subst (Written at bytes s.seen) (sym (seen_is recorded)) (put_written at bytes s.seen),
-          subst (λ (b : List ℕ). GoesTo (touched at (length b) s.now) s (state_of first new)) recorded.1 goes,
+          subst (λ (b : List ℕ). GoesTo (touched at (length b) s.now) s (state_of_records first new)) recorded.1 goes,
         )
-    write_done (Err e) (Err e') same recorded unchanged = inl (ap (state_of first) unchanged)
+    write_done (Err e) (Err e') same recorded unchanged = inl (ap (state_of_records first) unchanged)
     write_done (Ok t) (Err e') same recorded unchanged = cc
     write_done (Err e) (Ok t') same recorded unchanged = cc
 

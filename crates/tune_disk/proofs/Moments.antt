@@ -4,7 +4,7 @@ use Rattle.std.proofs.Common.{◌∙◌, ap, subst, arith, length-append, Result
 use Rattle.std.proofs.lemmas.List.{append_assoc, ext_get_or}
 use Rattle.tune_disk.specs.Disk.{Medium, DiskState, MayLeave, GoesTo, touched, settled, Writes, Syncs}
 use Rattle.tune_disk.proofs.Overwrites.{longer_after}
-use Rattle.tune_disk.specs.Inside.Spares.{KeepsOffsets, EachKeepsOffsets, Spares, Agrees}
+use Rattle.tune_disk.specs.Inside.Spares.{KeepsOffsets, EachKeepsOffsets, SparesOffsets, Agrees}
 use Rattle.tune_disk.specs.Stops.{LeavesOnly, EachLeavesOnly, SinceThen}
 
 -- Runs of writes that spare some bytes.
@@ -38,7 +38,7 @@ since_both : (a b c : DiskState) (s t : List Medium) → b.now ∷ b.past ≡ s 
 since_both a b c s t first then = then ∙ ap (λ (l : List Medium). t ++ l) first ∙ sym (append_assoc t s (a.now ∷ a.past))
 
 -- Nothing happened.
-pub spares_none : (Kept : ℕ → Type 0) (s : DiskState) → Spares Kept s s
+pub spares_none : (Kept : ℕ → Type 0) (s : DiskState) → SparesOffsets Kept s s
 spares_none Kept s = record {
   since = [];
   history = refl;
@@ -48,7 +48,7 @@ spares_none Kept s = record {
   seen = λ i _. refl;
 }
 
-pub spares_then : (Kept : ℕ → Type 0) (a b c : DiskState) → Spares Kept a b → Spares Kept b c → Spares Kept a c
+pub spares_then : (Kept : ℕ → Type 0) (a b c : DiskState) → SparesOffsets Kept a b → SparesOffsets Kept b c → SparesOffsets Kept a c
 spares_then Kept a b c s t = record {
   since = t.since ++ s.since;
   history = since_both a b c s.since t.since s.history t.history;
@@ -59,7 +59,7 @@ spares_then Kept a b c s t = record {
 }
 
 -- fewer offsets are kept
-pub spares_fewer : (Kept Fewer : ℕ → Type 0) (a b : DiskState) → ((i : ℕ) → Fewer i → Kept i) → Spares Kept a b → Spares Fewer a b
+pub spares_fewer : (Kept Fewer : ℕ → Type 0) (a b : DiskState) → ((i : ℕ) → Fewer i → Kept i) → SparesOffsets Kept a b → SparesOffsets Fewer a b
 spares_fewer Kept Fewer a b f s = record {
   since = s.since;
   history = s.history;
@@ -72,7 +72,7 @@ spares_fewer Kept Fewer a b f s = record {
 module _ (Kept : ℕ → Type 0) (at : ℕ) (bytes : List ℕ) (out : (i : ℕ) → Kept i → (i < at) ⊎ (at + length bytes ≤ i)) where
   -- one write, whole or not
   spares_touch : (a b : DiskState) → GoesTo (touched at (length bytes) a.now) a b → length a.seen ≤ length b.seen
-      → ((i : ℕ) → (i < at) ⊎ (at + length bytes ≤ i) → get_or b.seen i 0 ≡ get_or a.seen i 0) → Spares Kept a b
+      → ((i : ℕ) → (i < at) ⊎ (at + length bytes ≤ i) → get_or b.seen i 0 ≡ get_or a.seen i 0) → SparesOffsets Kept a b
   spares_touch a b to longer same =
       let keeps : KeepsOffsets Kept a.now (touched at (length bytes) a.now) = record { stable = refl; untouched = λ i kept u. (out i kept, u) } in
       record {
@@ -84,14 +84,14 @@ module _ (Kept : ℕ → Type 0) (at : ℕ) (bytes : List ℕ) (out : (i : ℕ) 
         seen = λ i kept. same i (out i kept);
       }
 
-  written_spares : {T E : Type 0} (r : Result T E) (a b : DiskState) → Writes at bytes r a b → Spares Kept a b
+  written_spares : {T E : Type 0} (r : Result T E) (a b : DiskState) → Writes at bytes r a b → SparesOffsets Kept a b
   written_spares (Ok t) a b w = spares_touch a b w.1 (omega (arith, w.0.long, longer_after at (length bytes) (length a.seen))) w.0.outside
-  written_spares (Err e) a b (inl same) = subst (λ (s : DiskState). Spares Kept a s) (sym same) (spares_none Kept a)
+  written_spares (Err e) a b (inl same) = subst (λ (s : DiskState). SparesOffsets Kept a s) (sym same) (spares_none Kept a)
   written_spares (Err e) a b (inr w) = spares_touch a b w.1 w.0.no_shorter w.0.outside
 
 -- one write, whatever it answered
 pub spares_write : {T E : Type 0} (Kept : ℕ → Type 0) (at : ℕ) (bytes : List ℕ) (r : Result T E) (a b : DiskState) → Writes at bytes r a b
-    → ((i : ℕ) → Kept i → (i < at) ⊎ (at + length bytes ≤ i)) → Spares Kept a b
+    → ((i : ℕ) → Kept i → (i < at) ⊎ (at + length bytes ≤ i)) → SparesOffsets Kept a b
 spares_write Kept at bytes r a b w out = written_spares Kept at bytes out r a b w
 
 -- What a stop leaves over a settled disk.
@@ -118,7 +118,7 @@ module _ (P : List ℕ → Type 0) where
   each_agrees Kept file so (m ∷ ms) e = ((λ c left. so c (keeps_agrees Kept file m e.0 c left)), each_agrees Kept file so ms e.1)
 
   -- a phase of writes over a settled disk
-  pub spares_since : (Kept : ℕ → Type 0) (a b : DiskState) → a.now ≡ settled a.seen → Spares Kept a b → ((c : List ℕ) → Agrees Kept a.seen c → P c)
+  pub spares_since : (Kept : ℕ → Type 0) (a b : DiskState) → a.now ≡ settled a.seen → SparesOffsets Kept a b → ((c : List ℕ) → Agrees Kept a.seen c → P c)
       → SinceThen a b P
   spares_since Kept a b rest s so =
       let first = subst (λ (m : Medium). KeepsOffsets Kept m a.now) rest (keeps_none Kept a.now) in

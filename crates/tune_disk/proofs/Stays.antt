@@ -3,7 +3,7 @@ use Rattle.std.specs.Prelude.{ℕ, List, [], ◌∷◌, length, refl}
 use Rattle.std.proofs.Common.{◌∙◌, arith}
 use Rattle.tune_disk.specs.Disk.{Medium, DiskState, MayLeave, Written, touched, settled}
 use Rattle.tune_disk.proofs.Overwrites.{longer_after, length_after_rises, put_written}
-use Rattle.tune_disk.specs.Records.{record_to, replayed, state_of}
+use Rattle.tune_disk.specs.Records.{record_to, replayed, state_of_records}
 use Rattle.tune_disk.specs.declared.memory.Record.{Record}
 use Rattle.tune_disk.specs.declared.memory.Record.TheVariants.{Write, Sync}
 
@@ -38,5 +38,5 @@ replayed_stays (one ∷ more) s stays =
     replayed_stays more (record_to one s) (record_stays one s stays)
 
 -- a state of a disk in memory
-pub state_stays : (first : List ℕ) (records : List Record) → MayLeave (state_of first records).now (state_of first records).seen
+pub state_stays : (first : List ℕ) (records : List Record) → MayLeave (state_of_records first records).now (state_of_records first records).seen
 state_stays first records = replayed_stays records _ (settled_stays first)

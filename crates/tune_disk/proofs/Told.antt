@@ -5,7 +5,7 @@ use Rattle.std.proofs.lemmas.Bool.{cases_lt}
 use Rattle.std.proofs.lemmas.List.{get_or_past, append-nil, append_assoc}
 use Rattle.tune_disk.specs.ByteWrites.{put}
 use Rattle.tune_disk.specs.Disk.{DiskState, Written, Torn, GoesTo, Writes, Syncs, touched}
-use Rattle.tune_disk.specs.FileTold.{History, Course, told, course, AnswerFits, AnswersFit, after_write, after_sync}
+use Rattle.tune_disk.specs.FileTold.{History, Course, told_at, course, AnswerFits, AnswersFit, after_write, after_sync}
 use Rattle.tune_disk.proofs.Overwrites.{put_written}
 use Rattle.tune_disk.specs.Inside.ToldMore.{IsToldMore, IsToldRead, IsToldWrite}
 use Rattle.tune_disk.specs.Inside.ToldMore.{IsToldBroken, IsToldTaken}
@@ -18,26 +18,26 @@ Log = List (ℕ × Told)
 
 -- One answer more.
 
-course_more : (h : History) (c : Course) (all : Log) (at : ℕ) (one : Told) → course h c (all ++ (at, one) ∷ []) ≡ told h at one (course h c all)
+course_more : (h : History) (c : Course) (all : Log) (at : ℕ) (one : Told) → course h c (all ++ (at, one) ∷ []) ≡ told_at h at one (course h c all)
 course_more h c [] at one = refl
-course_more h c (first ∷ all) at one = course_more h (told h first.0 first.1 c) all at one
+course_more h c (first ∷ all) at one = course_more h (told_at h first.0 first.1 c) all at one
 
 fit_more : (h : History) (c : Course) (all : Log) (at : ℕ) (one : Told) → AnswersFit h c (all ++ (at, one) ∷ [])
     → AnswersFit h c all × AnswerFits h (course h c all) at one
 fit_more h c [] at one fit = (tt, fit.0)
-fit_more h c (first ∷ all) at one fit = (let rest = fit_more h (told h first.0 first.1 c) all at one fit.1 in ((fit.0, rest.0), rest.1))
+fit_more h c (first ∷ all) at one fit = (let rest = fit_more h (told_at h first.0 first.1 c) all at one fit.1 in ((fit.0, rest.0), rest.1))
 
 module _ (old new : Log) (at : ℕ) (one : Told) (is : new ≡ old ++ (at, one) ∷ []) where
-  course_is : (h : History) (c : Course) → course h c new ≡ told h at one (course h c old)
+  course_is : (h : History) (c : Course) → course h c new ≡ told_at h at one (course h c old)
   course_is h c = ap (course h c) is ∙ course_more h c old at one
 
-  state_is : (h : History) (c : Course) → (course h c new).state ≡ (told h at one (course h c old)).state
+  state_is : (h : History) (c : Course) → (course h c new).state ≡ (told_at h at one (course h c old)).state
   state_is h c = ap (λ (k : Course). k.state) (course_is h c)
 
   fit_is : (h : History) (c : Course) → AnswersFit h c new → AnswersFit h c old × AnswerFits h (course h c old) at one
   fit_is h c fit = fit_more h c old at one (subst (AnswersFit h c) is fit)
 
-  more_told : ((h : History) (c : Course) → (told h at one c).state ≡ c.state) → IsToldMore old new
+  more_told : ((h : History) (c : Course) → (told_at h at one c).state ≡ c.state) → IsToldMore old new
   more_told same = record { fits = λ h c fit. (fit_is h c fit).0; state = λ h c. state_is h c ∙ same h (course h c old) }
 
 told_none : (log : Log) → IsToldMore log log
@@ -111,7 +111,7 @@ read_join at d n xs ys zs a m z r s front back = record {
 -- A write.
 
 hand_is : (old new : Log) (at : ℕ) (one : Told) → new ≡ old ++ (at, one) ∷ [] → (h : History) (c : Course)
-    → (course h c new).hand ≡ (told h at one (course h c old)).hand
+    → (course h c new).hand ≡ (told_at h at one (course h c old)).hand
 hand_is old new at one is h c = ap (λ (k : Course). k.hand) (course_is old new at one is h c)
 
 pub taken_none : (log : Log) → IsToldTaken [] log log

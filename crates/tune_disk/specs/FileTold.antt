@@ -32,28 +32,28 @@ abbrev pub after_sync : DiskState → DiskState
 after_sync s = record { seen = s.seen; now = settled s.seen; past = s.now ∷ s.past }
 
 -- the file after it told this of an offset
-abbrev pub told : History → ℕ → Told → Course → Course
-told h at (Length n) c = c
-told h at (Byte b) c = c
-told h at Ended c = c
-told h at Begun c = record { state = c.state; hand = []; failed = c.failed }
-told h at (Put b) c = record { state = c.state; hand = c.hand ++ b ∷ []; failed = c.failed }
-told h at Wrote c = record {
+abbrev pub told_at : History → ℕ → Told → Course → Course
+told_at h at (Length n) c = c
+told_at h at (Byte b) c = c
+told_at h at Ended c = c
+told_at h at Begun c = record { state = c.state; hand = []; failed = c.failed }
+told_at h at (Put b) c = record { state = c.state; hand = c.hand ++ b ∷ []; failed = c.failed }
+told_at h at Wrote c = record {
   state = after_write at (length c.hand) (put at c.hand c.state.seen) c.state;
   hand = c.hand;
   failed = c.failed;
 }
-told h at (Broke n) c = record {
+told_at h at (Broke n) c = record {
   state = after_write at n (get_or h.broken c.failed []) c.state;
   hand = c.hand;
   failed = c.failed + 1;
 }
-told h at Synced c = record { state = after_sync c.state; hand = c.hand; failed = c.failed }
+told_at h at Synced c = record { state = after_sync c.state; hand = c.hand; failed = c.failed }
 
 -- and after all of these, the first first
 abbrev pub course : History → Course → List (ℕ × Told) → Course
 course h c [] = c
-course h c (one ∷ more) = course h (told h one.0 one.1 c) more
+course h c (one ∷ more) = course h (told_at h one.0 one.1 c) more
 
 -- what is told of an offset fits what the file stands for
 abbrev pub AnswerFits : History → Course → ℕ → Told → Type 0
@@ -70,4 +70,4 @@ AnswerFits h c at Synced = Unit {0}
 abbrev pub AnswersFit : History → Course → List (ℕ × Told) → Type 0
 AnswersFit h c [] = Unit {0}
 AnswersFit h c (one ∷ more) =
-    AnswerFits h c one.0 one.1 × AnswersFit h (told h one.0 one.1 c) more
+    AnswerFits h c one.0 one.1 × AnswersFit h (told_at h one.0 one.1 c) more

@@ -1,12 +1,12 @@
 -- What a `MemoryDisk` shows, and the files that it makes as a stop may leave them.
 use Rattle.std.specs.Prelude.{◌≡◌, ℕ, ◌<◌, List, length, slice_index}
 use Rattle.tune_disk.specs.Disk.{DiskState, Untouched}
-use Rattle.tune_disk.specs.Records.{state_of}
+use Rattle.tune_disk.specs.Records.{state_of_records}
 use Rattle.tune_disk.specs.declared.memory.MemoryDisk.{MemoryDisk}
 
 -- its first content after all its writes and syncs
 abbrev pub memory_state : MemoryDisk → DiskState
-memory_state disk = state_of disk.first.items disk.records.items
+memory_state disk = state_of_records disk.first.items disk.records.items
 
 -- how often it found no memory
 abbrev pub memory_failures : MemoryDisk → ℕ

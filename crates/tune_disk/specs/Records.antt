@@ -20,5 +20,5 @@ replayed [] s = s
 replayed (one ∷ more) s = replayed more (record_to one s)
 
 -- what a disk in memory stands for: its first content, and what was done to it since
-abbrev pub state_of : List ℕ → List Record → DiskState
-state_of first records = replayed records (fresh first)
+abbrev pub state_of_records : List ℕ → List Record → DiskState
+state_of_records first records = replayed records (fresh first)

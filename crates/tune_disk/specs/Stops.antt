@@ -18,5 +18,5 @@ pub record SinceThen (old new : DiskState) (P : List ℕ → Type 0) : Type 0 wh
   pub first : LeavesOnly old.now P
 
 -- the range of so many bytes at one offset lies within the range at another
-abbrev pub IsPart : ℕ → ℕ → ℕ → ℕ → Type 0
-IsPart part_at part at n = (at ≤ part_at) × (part_at + part ≤ at + n)
+abbrev pub IsWithinRange : ℕ → ℕ → ℕ → ℕ → Type 0
+IsWithinRange part_at part at n = (at ≤ part_at) × (part_at + part ≤ at + n)

@@ -2,7 +2,7 @@
 ghost use Rattle.std.specs.Prelude.{◌≡◌, ◌<◌, ◌≤◌, ℕ, List, length, slice_index};
 ghost use Rattle.tune_disk.specs.Disk.{Medium, DiskState, MayLeave, GoesTo, Untouched, settled};
 ghost use Rattle.tune_disk.specs.Disk.{touched};
-ghost use Rattle.tune_disk.specs.Stops.{LeavesOnly, IsPart};
+ghost use Rattle.tune_disk.specs.Stops.{LeavesOnly, IsWithinRange};
 
 use crate::Disk;
 
@@ -16,7 +16,7 @@ pub fn law_of_stops<D: Disk>(disk: &D)
         → LeavesOnly new.now (λ file. file ≡ new.seen) }
     // A stop within a write, when any part of its range was written, leaves nothing that a stop
     // after that write could not leave; nor does one before it.
-    ensures within_write { (m : Medium) (at n part_at part : ℕ) → IsPart part_at part at n
+    ensures within_write { (m : Medium) (at n part_at part : ℕ) → IsWithinRange part_at part at n
         → LeavesOnly (touched part_at part m) (MayLeave (touched at n m)) }
     ensures before_write { (m : Medium) (at n : ℕ) → LeavesOnly m (MayLeave (touched at n m)) }
     // What a stop may leave agrees with the stable content at each byte that no write since has

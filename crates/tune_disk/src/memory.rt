@@ -4,7 +4,7 @@ ghost use Rattle.std.specs.Prelude.{IsOk, is_ok, ℕ, List, length, take, drop, 
 ghost use Rattle.tune_disk.specs.Inside.Fills.{Fills, IsLastSync};
 ghost use Rattle.tune_disk.specs.Inside.MayStay.{SeenMayStay};
 ghost use Rattle.tune_disk.specs.Disk.{Written, Writes, Shows, CountsFailure};
-ghost use Rattle.tune_disk.specs.Records.{state_of};
+ghost use Rattle.tune_disk.specs.Records.{state_of_records};
 
 use crate::buffers::{clear_from, copy_front};
 use crate::{DeviceFault, Disk};
@@ -39,9 +39,9 @@ pub struct MemoryDisk {
     records: Vec<Record>,
     content: Vec<u8>,
     failed: u64,
-    ghost replays: { content.items ≡ (state_of first.items records.items).seen },
+    ghost replays: { content.items ≡ (state_of_records first.items records.items).seen },
     // What a read gives is one of the files that a stop may leave.
-    ghost stays: { SeenMayStay (state_of first.items records.items) },
+    ghost stays: { SeenMayStay (state_of_records first.items records.items) },
 }
 
 impl MemoryDisk {
@@ -127,8 +127,8 @@ impl MemoryDisk {
 // How many records there are up to the last sync: after them stands what that sync left.
 fn up_to_last_sync(records: &[Record]) -> usize
     ensures bound { result ≤ length records.now }
-    ensures left { (first : List ℕ) → (state_of first (take result records.now)).seen
-        ≡ (state_of first records.now).now.stable }
+    ensures left { (first : List ℕ) → (state_of_records first (take result records.now)).seen
+        ≡ (state_of_records first records.now).now.stable }
     ensures last { IsLastSync result records.now }
 {
     let mut synced = 0;
@@ -143,7 +143,7 @@ fn up_to_last_sync(records: &[Record]) -> usize
 
 // The content after all of these records.
 fn replay(alloc: Global, first: &[u8], records: &[Record]) -> Result<Vec<u8>, AllocError>
-    ensures { IfOk result (λ file. file.items ≡ (state_of first.now records.now).seen) }
+    ensures { IfOk result (λ file. file.items ≡ (state_of_records first.now records.now).seen) }
 {
     let mut content = first.to_vec(alloc)?;
     for one in records {
@@ -160,7 +160,7 @@ fn fill_written(file: &mut [u8], records: &[Record], synced: usize, byte: u8)
     requires bound { synced ≤ length records.now }
     requires last { IsLastSync synced records.now }
     ensures { (first : List ℕ) → Fills
-        byte (state_of first records.now).now.written file.old file.new }
+        byte (state_of_records first records.now).now.written file.old file.new }
 {
     for i in synced..records.len() {
         match &records[i] {

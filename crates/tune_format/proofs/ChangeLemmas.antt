@@ -6,7 +6,7 @@ use Rattle.std.proofs.Math.Seq.{set-append_seam, take-append_seam, drop-append_s
 use Rattle.std.proofs.lemmas.List.{drop-drop, take-append-drop}
 use Rattle.tune_pages.specs.Stand.{Stand, PutsChain, HasChain, without_pages}
 use Rattle.tune_store.specs.declared.tune.Tune.{Tune}
-use Rattle.tune_format.specs.Filed.{row_of, rows_of, HoldsTuneAt}
+use Rattle.tune_format.specs.Filed.{row_of_tune, rows_of_tunes, HoldsTuneAt}
 use Rattle.tune_parts.specs.Parts.{Part, HoldsParts, chain_part}
 use Rattle.tune_parts.proofs.PartLemmas.{put_parts, free_parts, has_part, move_part}
 use Rattle.tune_format.proofs.TextLemmas.{length-texts, rows_count, rows_join}
@@ -52,9 +52,10 @@ pub has_text : (s : Stand) (ahead texts : List Part) (tunes : List Tune) (place 
 has_text s ahead texts tunes place holds at = has_part s at.part (ahead ++ at.before) at.after at.is_chain (held_here s ahead texts tunes place holds at)
 
 pub row_at_place : (texts : List Part) (tunes : List Tune) (place : ℕ) (at : HoldsTuneAt texts tunes place)
-    → (rows_of tunes texts ≡ rows_of at.front at.before ++ row_of at.tune at.part ∷ rows_of at.back at.after) × (length (rows_of at.front at.before) ≡ place)
+    → (rows_of_tunes tunes texts ≡ rows_of_tunes at.front at.before ++ row_of_tune at.tune at.part ∷ rows_of_tunes at.back at.after)
+    × (length (rows_of_tunes at.front at.before) ≡ place)
 row_at_place texts tunes place at = (
-  (λ i. rows_of (at.are_tunes i) (at.are_texts i)) ∙ rows_join at.before (at.part ∷ at.after) at.front (at.tune ∷ at.back) at.holds_front,
+  (λ i. rows_of_tunes (at.are_tunes i) (at.are_texts i)) ∙ rows_join at.before (at.part ∷ at.after) at.front (at.tune ∷ at.back) at.holds_front,
   rows_count at.front at.before at.holds_front ∙ at.is_place,
 )
 

@@ -2,10 +2,10 @@
 use Rattle.std.proofs.Common.{◌≡◌, [], ◌∷◌, take, refl}
 use Rattle.tune_store.specs.declared.layout.Layout.TheVariants.{One}
 use Rattle.tune_store.specs.declared.tune.Tune.{Tune}
-use Rattle.tune_format.specs.Filed.{rows_of}
+use Rattle.tune_format.specs.Filed.{rows_of_tunes}
 use Rattle.tune_parts.specs.Parts.{Part, chain_part}
 use Rattle.tune_format.specs.Reading.{tune_of, sets_written}
-use Rattle.tune_format.specs.Written.{IsRoot, head_of_root, no_firsts, number_entries, number_key, written_tune}
+use Rattle.tune_format.specs.Written.{IsRoot, head_of_root, no_firsts, number_entries, number_key, stored_tune}
 use Rattle.tune_format.specs.declared.root.Firsts.{Firsts}
 
 -- the chains of an archive, on pages that are not alike
@@ -30,7 +30,7 @@ made_written = refl
 abbrev last : Tune
 last = record { number = 999999; revision = 9999; text = 88 ∷ [] }
 
-tune_written : written_tune last ≡ 39 ∷ 15 ∷ 88 ∷ []
+tune_written : stored_tune last ≡ 39 ∷ 15 ∷ 88 ∷ []
 tune_written = refl
 
 tune_read : tune_of 999999 (39 ∷ 15 ∷ 88 ∷ []) ≡ last
@@ -39,7 +39,7 @@ tune_read = refl
 abbrev part : Part
 part = chain_part 70000 (70000 ∷ []) (39 ∷ 15 ∷ 88 ∷ [])
 
-entry_written : number_entries (rows_of (last ∷ []) (part ∷ [])) ≡ (number_key 999999, 70000) ∷ []
+entry_written : number_entries (rows_of_tunes (last ∷ []) (part ∷ [])) ≡ (number_key 999999, 70000) ∷ []
 entry_written = refl
 
 -- the set `a` of tunes 1 and 258, and the set `b` of none

@@ -14,8 +14,8 @@ use Rattle.index_keys.specs.Entries.{Entry}
 use Rattle.tune_index.specs.Leaves.{leaf_in, value_bytes, value_in}
 use Rattle.tune_index.specs.ListedLeaves.{listed_bytes, numbers_in}
 use Rattle.tune_journal.specs.Image.{StandsFor, gate_of, count_of, new_count_of, log_of, pages_of}
-use Rattle.tune_journal.specs.Pages.{page_at, changed}
-use Rattle.tune_pages.specs.Chain.{Leads, bytes_along, next_of, piece_of}
+use Rattle.tune_journal.specs.Pages.{page_at, changed_pages}
+use Rattle.tune_pages.specs.Chain.{Leads, bytes_along, next_page_of, piece_of}
 use Rattle.tune_pages.specs.Stand.{IsFree, AllFree, marked}
 use Rattle.tune_pages.proofs.Chains.{length-marked}
 use Rattle.tune_pages.proofs.Marks.{used_few}
@@ -27,16 +27,16 @@ use Rattle.tune_parts.proofs.PartLemmas.{free_front, each_used, its_chain}
 use Rattle.tune_search.specs.IndexParts.{HoldsIndex, IndexParts, IsLeafPart, entries_of_parts, parts_of_index}
 use Rattle.tune_search.specs.Searches.{key_bytes, parts_of_search}
 use Rattle.tune_search.proofs.LeafParts.{no_chain}
-use Rattle.tune_sets.specs.SetBytes.{written_numbers, written_set, written_sets}
+use Rattle.tune_sets.specs.SetBytes.{written_numbers, stored_set, written_sets}
 use Rattle.tune_sets.specs.Sets.{IsTuneSet, AreSetLists}
 use Rattle.tune_sets.specs.declared.set_lists.TuneSet.{TuneSet}
 use Rattle.tune_sets.proofs.ByteLemmas.{set_parts, length-written_numbers}
 use Rattle.tune_store.specs.State.{IsTune, IsTunes}
 use Rattle.tune_store.specs.declared.tune.Tune.{Tune}
-use Rattle.tune_format.specs.Filed.{AreChains, HoldTunes, Filed, archive_parts, rows_of}
+use Rattle.tune_format.specs.Filed.{AreChains, HoldTunes, Filed, archive_parts, rows_of_tunes}
 use Rattle.tune_format.specs.Reading.{bytes_from, chain_at, entries_at, tune_of, tune_at_entry}
-use Rattle.tune_format.specs.Reading.{numbers_of, places_of, sets_of, sets_written, tunes_in, sets_in, pages_in}
-use Rattle.tune_format.specs.Written.{number_entries, number_key, written_tune}
+use Rattle.tune_format.specs.Reading.{numbers_in_bytes, place_count_in, sets_of, sets_written, tunes_in, sets_in, pages_in}
+use Rattle.tune_format.specs.Written.{number_entries, number_key, stored_tune}
 use Rattle.tune_format.proofs.Bytes.{number_front}
 use Rattle.tune_format.proofs.TextLemmas.{tune_without, first_held, later_held}
 
@@ -49,7 +49,7 @@ few_free n trail free =
     omega (arith, used_few trail (marked true trail none) (each_used trail none known.0 known.1), length-marked true trail none, length-replicate n false)
 
 step_on : (most : ℕ) (pages : List (List ℕ)) (page : ℕ) → 0 < page
-    → bytes_from (suc most) pages page ≡ piece_of (page_at pages page) ++ bytes_from most pages (next_of (page_at pages page))
+    → bytes_from (suc most) pages page ≡ piece_of (page_at pages page) ++ bytes_from most pages (next_page_of (page_at pages page))
 step_on most pages page some = grind (arith, nat_tests, some)
 
 step_off : (most : ℕ) (pages : List (List ℕ)) (page : ℕ) → page ≡ 0 → bytes_from most pages page ≡ []
@@ -63,7 +63,7 @@ bytes_from_is most pages first [] le leads = step_off most pages first leads
 bytes_from_is zero pages first (p ∷ trail) le leads = absurd (omega (arith, le))
 bytes_from_is (suc most) pages first (p ∷ trail) le leads =
     ap (bytes_from (suc most) pages) leads.0 ∙ step_on most pages p leads.1
-    ∙ ap (λ l. piece_of (page_at pages p) ++ l) (bytes_from_is most pages (next_of (page_at pages p)) trail (omega (arith, le)) leads.4)
+    ∙ ap (λ l. piece_of (page_at pages p) ++ l) (bytes_from_is most pages (next_page_of (page_at pages p)) trail (omega (arith, le)) leads.4)
 
 -- each of these chains is read as its bytes, and begins at a page that is there
 abbrev ReadsPart : List (List ℕ) → Part → Type 0
@@ -165,7 +165,7 @@ index_read pages index entries few holds stand free =
     ∙ leaves_read pages index.leaves reads ∙ holds.hold
 
 -- TUNES
-tune_read : (tune : Tune) → tune.revision < 2 ^ 16 → tune_of tune.number (written_tune tune) ≡ tune
+tune_read : (tune : Tune) → tune.revision < 2 ^ 16 → tune_of tune.number (stored_tune tune) ≡ tune
 tune_read tune small =
     ap (λ r. record { number = tune.number; revision = r; text = tune.text }) (big_number-reads_back 2 tune.revision tune.text (omega (arith, small)))
 
@@ -177,14 +177,14 @@ number_read : (number : ℕ) → number_key number / 256 ^ 28 ≡ number
 number_read number = omega arith
 
 tunes_read : (pages : List (List ℕ)) (tunes : List Tune) (texts : List Part) → AllByRecursion HasRoom tunes → HoldTunes texts tunes
-    → AllByRecursion (ReadsPart pages) texts → map (tune_at_entry pages) (number_entries (rows_of tunes texts)) ≡ tunes
+    → AllByRecursion (ReadsPart pages) texts → map (tune_at_entry pages) (number_entries (rows_of_tunes tunes texts)) ≡ tunes
 tunes_read pages [] texts rooms holds reads = refl
 tunes_read pages (tune ∷ tunes) [] rooms holds reads = absurd (tune_without tune tunes holds)
 tunes_read pages (tune ∷ tunes) (part ∷ texts) rooms holds reads =
     let its = first_held part texts tune tunes holds in
     let later = later_held part texts tune tunes holds in
     let first = reads.0.0 ∙ its in
-    (λ i. tune_of (number_read tune.number i) (first i) ∷ map (tune_at_entry pages) (number_entries (rows_of tunes texts)))
+    (λ i. tune_of (number_read tune.number i) (first i) ∷ map (tune_at_entry pages) (number_entries (rows_of_tunes tunes texts)))
     ∙ (λ i. tune_read tune rooms.0 i ∷ tunes_read pages tunes texts rooms.1 later reads.1 i)
 
 rooms_of : (layout : Layout) (tunes : List Tune) → AllByRecursion (IsTune layout) tunes → AllByRecursion HasRoom tunes
@@ -192,7 +192,8 @@ rooms_of layout [] each = tt
 rooms_of layout (tune ∷ tunes) each = (omega (arith, each.0.revision), rooms_of layout tunes each.1)
 
 -- SETS
-numbers_read : (numbers rest : List ℕ) → AllByRecursion (λ n. n < 2 ^ 32) numbers → numbers_of (length numbers) (written_numbers numbers ++ rest) ≡ numbers
+numbers_read : (numbers rest : List ℕ) → AllByRecursion (λ n. n < 2 ^ 32) numbers → numbers_in_bytes (length numbers) (written_numbers numbers ++ rest)
+    ≡ numbers
 numbers_read [] rest small = refl
 numbers_read (n ∷ numbers) rest small =
     (λ i. number_front n (written_numbers numbers ++ rest) small.0 i ∷ numbers_read numbers rest small.1 i)
@@ -200,7 +201,7 @@ numbers_read (n ∷ numbers) rest small =
 -- the parts of a set at the front of bytes
 record AtFront (size : ℕ) (bytes name numbers rest : List ℕ) : Type 0 where
   name_is : take size bytes ≡ name
-  count_is : places_of (drop size bytes) ≡ length numbers
+  count_is : place_count_in (drop size bytes) ≡ length numbers
   numbers_are : drop (size + 2) bytes ≡ written_numbers numbers ++ rest
   rest_is : drop (size + 2 + 4 * length numbers) bytes ≡ rest
 
@@ -223,14 +224,14 @@ at_front name numbers rest few =
     }
 
 -- the set at the front of bytes
-set_read : (most : ℕ) (set : TuneSet) (rest : List ℕ) → IsTuneSet set → sets_of (suc most) (written_set set ++ rest) ≡ set ∷ sets_of most rest
+set_read : (most : ℕ) (set : TuneSet) (rest : List ℕ) → IsTuneSet set → sets_of (suc most) (stored_set set ++ rest) ≡ set ∷ sets_of most rest
 set_read most set rest is =
     let n = length set.name in
     let bytes = set.name ++ (big_bytes 2 (length set.numbers) ++ (written_numbers set.numbers ++ rest)) in
     let front = at_front set.name set.numbers rest (omega (arith, is.places)) in
-    let later : drop (n + 2 + 4 * places_of (drop n bytes)) bytes ≡ rest = ap (λ c. drop (n + 2 + 4 * c) bytes) front.count_is ∙ front.rest_is in
+    let later : drop (n + 2 + 4 * place_count_in (drop n bytes)) bytes ≡ rest = ap (λ c. drop (n + 2 + 4 * c) bytes) front.count_is ∙ front.rest_is in
     ap (sets_of (suc most)) (set_parts set rest)
-    ∙ (λ i. record { name = front.name_is i; numbers = numbers_of (front.count_is i) (front.numbers_are i) } ∷ sets_of most (later i))
+    ∙ (λ i. record { name = front.name_is i; numbers = numbers_in_bytes (front.count_is i) (front.numbers_are i) } ∷ sets_of most (later i))
     ∙ ap (λ l. record { name = set.name; numbers = l } ∷ sets_of most rest) (numbers_read set.numbers rest is.numbers)
 
 sets_read : (most : ℕ) (sets : List TuneSet) → AllByRecursion IsTuneSet sets → length sets ≤ most → sets_of most (written_sets sets) ≡ sets
@@ -241,7 +242,7 @@ sets_read (suc most) (set ∷ sets) each le = set_read most set (written_sets se
 
 sets_long : (sets : List TuneSet) → length sets ≤ length (written_sets sets)
 sets_long [] = omega arith
-sets_long (set ∷ sets) = omega (arith, sets_long sets, length-append (written_set set) (written_sets sets))
+sets_long (set ∷ sets) = omega (arith, sets_long sets, length-append (stored_set set) (written_sets sets))
 
 -- PAGES
 -- the set lists and the tunes are read as their bytes
@@ -260,12 +261,13 @@ filed_texts layout pages tunes sets filed =
     all_free layout pages tunes sets filed = apart_rest pages (archive_parts filed.numbers filed.searches filed.set_lists filed.texts) filed.parts.apart
 
 filed_numbers : (layout : Layout) (pages : List (List ℕ)) (tunes : List Tune) (sets : List TuneSet) (filed : Filed layout pages tunes sets)
-    → length pages < 2 ^ 32 → entries_at pages filed.numbers.list.first ≡ number_entries (rows_of tunes filed.texts)
+    → length pages < 2 ^ 32 → entries_at pages filed.numbers.list.first ≡ number_entries (rows_of_tunes tunes filed.texts)
 filed_numbers layout pages tunes sets filed few =
     let numbers = parts_of_index filed.numbers in
     let rest = parts_of_search filed.searches ++ filed.set_lists ∷ filed.texts in
     let free = apart_rest pages (numbers ++ rest) filed.parts.apart in
-    index_read pages filed.numbers (number_entries (rows_of tunes filed.texts)) few filed.are_numbers (all_left (IsPart pages) numbers rest filed.parts.stand)
+    index_read pages filed.numbers (number_entries (rows_of_tunes tunes filed.texts)) few filed.are_numbers
+    (all_left (IsPart pages) numbers rest filed.parts.stand)
     (free_front filed.numbers.list.trail (trails (filed.numbers.leaves ++ rest)) (replicate (length pages) false) free)
 
 pub tunes_filed : {layout : Layout} → (pages : List (List ℕ)) (tunes : List Tune) (sets : List TuneSet) → Filed layout pages tunes sets → IsTunes layout tunes
@@ -283,7 +285,7 @@ sets_filed pages tunes sets filed are =
     ap sets_written chain ∙ sets_read (length (written_sets sets)) sets are.each (sets_long sets)
 
 -- FILES
-open_pages : (file : List ℕ) → gate_of file ≡ 167 → pages_in file ≡ changed (pages_of (new_count_of file) file) (log_of file)
+open_pages : (file : List ℕ) → gate_of file ≡ 167 → pages_in file ≡ changed_pages (pages_of (new_count_of file) file) (log_of file)
 open_pages file is = grind (arith, nat_tests, is)
 
 closed_pages : (file : List ℕ) → gate_of file ≢ 167 → pages_in file ≡ pages_of (count_of file) file

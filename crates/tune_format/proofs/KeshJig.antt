@@ -116,7 +116,7 @@ one_entry keys_of number key own same = record { held = held; only = only }
 
 -- the state of one tune is filed on these pages
 filed : Filed One pages (tune ∷ []) []
-unfolding Chain.next_of Chain.size_of Chain.piece_of Leaves.capacity Leaves.value_in Leaves.value_bytes Leaves.count_in Leaves.leaf_in
+unfolding Chain.next_page_of Chain.size_of Chain.piece_of Leaves.capacity Leaves.value_in Leaves.value_bytes Leaves.count_in Leaves.leaf_in
 filed = record {
   numbers = index_of 7 2 (number_key 1);
   searches = searches;

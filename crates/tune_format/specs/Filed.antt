@@ -12,14 +12,14 @@ use Rattle.tune_store.specs.Limits.{notes_of}
 use Rattle.tune_store.specs.declared.layout.Layout.{Layout}
 use Rattle.tune_store.specs.declared.tune.Tune.{Tune}
 use Rattle.tune_format.specs.Searched.{AreSearchIndexes}
-use Rattle.tune_format.specs.Written.{IsRoot, number_entries, written_tune}
+use Rattle.tune_format.specs.Written.{IsRoot, number_entries, stored_tune}
 use Rattle.tune_format.specs.declared.root.Firsts.{Firsts}
 use Rattle.tune_format.specs.declared.rows.Row.{Row}
 
 -- TUNES
 -- a tune, and where its chain begins
-abbrev pub row_of : Tune → Part → Row
-row_of tune part =
+abbrev pub row_of_tune : Tune → Part → Row
+row_of_tune tune part =
     record {
       number = tune.number;
       revision = tune.revision;
@@ -28,10 +28,10 @@ row_of tune part =
     }
 
 -- the rows of tunes that stand in these parts, one after another
-abbrev pub rows_of : List Tune → List Part → List Row
-rows_of [] parts = []
-rows_of (tune ∷ tunes) [] = []
-rows_of (tune ∷ tunes) (part ∷ parts) = row_of tune part ∷ rows_of tunes parts
+abbrev pub rows_of_tunes : List Tune → List Part → List Row
+rows_of_tunes [] parts = []
+rows_of_tunes (tune ∷ tunes) [] = []
+rows_of_tunes (tune ∷ tunes) (part ∷ parts) = row_of_tune tune part ∷ rows_of_tunes tunes parts
 
 -- each of these parts is a chain
 abbrev pub AreChains : List Part → Type 0
@@ -40,7 +40,7 @@ AreChains parts = AllByRecursion (λ part. part.kind ≡ chain) parts
 -- Each of these parts is a chain that holds its tune, and there is one for each.
 pub record HoldTunes (parts : List Part) (tunes : List Tune) : Type 0 where
   pub are_chains : AreChains parts
-  pub hold : map (λ part. part.bytes) parts ≡ map written_tune tunes
+  pub hold : map (λ part. part.bytes) parts ≡ map stored_tune tunes
 
 -- the texts of tunes, with their numbers
 abbrev pub numbered_texts : List Tune → List (ℕ × List ℕ)
@@ -77,7 +77,7 @@ pub record Filed (layout : Layout) (pages : List (List ℕ)) (tunes : List Tune)
   pub texts : List Part
   pub parts : AreParts pages (archive_parts numbers searches set_lists texts)
   pub root : IsRoot layout (page_at pages 0) (firsts_of numbers searches set_lists)
-  pub are_numbers : HoldsIndex key_bytes numbers (number_entries (rows_of tunes texts))
+  pub are_numbers : HoldsIndex key_bytes numbers (number_entries (rows_of_tunes tunes texts))
   pub are_searches : AreSearchIndexes (notes_of layout) (numbered_texts tunes) searches
   pub sets_are_chain : set_lists.kind ≡ chain
   pub are_sets : set_lists.bytes ≡ written_sets sets
@@ -96,5 +96,5 @@ pub record HoldsTuneAt (texts : List Part) (tunes : List Tune) (place : ℕ) : T
   pub is_place : length front ≡ place
   pub holds_front : HoldTunes before front
   pub is_chain : part.kind ≡ chain
-  pub holds : part.bytes ≡ written_tune tune
+  pub holds : part.bytes ≡ stored_tune tune
   pub holds_back : HoldTunes after back

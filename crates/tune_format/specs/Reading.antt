@@ -8,8 +8,8 @@ use Rattle.tune_index.specs.Leaves.{leaf_in}
 use Rattle.tune_index.specs.ListedLeaves.{numbers_in}
 use Rattle.tune_journal.specs.Image.{gate_of, count_of, new_count_of, log_of, pages_of}
 use Rattle.tune_journal.specs.FileOffsets.{gate_open}
-use Rattle.tune_journal.specs.Pages.{page_at, changed}
-use Rattle.tune_pages.specs.Chain.{next_of, piece_of}
+use Rattle.tune_journal.specs.Pages.{page_at, changed_pages}
+use Rattle.tune_pages.specs.Chain.{next_page_of, piece_of}
 use Rattle.tune_search.specs.Searches.{key_bytes}
 use Rattle.tune_sets.specs.declared.set_lists.TuneSet.{TuneSet}
 use Rattle.tune_store.specs.Limits.{layout_number}
@@ -26,7 +26,7 @@ abbrev pub bytes_from : ℕ → List (List ℕ) → ℕ → List ℕ
 bytes_from zero pages page = []
 bytes_from (suc most) pages page =
     if page == 0 then []
-    else piece_of (page_at pages page) ++ bytes_from most pages (next_of (page_at pages page))
+    else piece_of (page_at pages page) ++ bytes_from most pages (next_page_of (page_at pages page))
 
 -- the bytes of the chain that begins there
 abbrev pub chain_at : List (List ℕ) → ℕ → List ℕ
@@ -55,13 +55,14 @@ tune_at_entry pages entry = tune_of (entry.0 / 256 ^ zeros_of_key) (chain_at pag
 
 -- SETS
 -- so many numbers, four bytes each
-abbrev pub numbers_of : ℕ → List ℕ → List ℕ
-numbers_of zero bytes = []
-numbers_of (suc count) bytes = number_at 0 bytes ∷ numbers_of count (drop number_bytes bytes)
+abbrev pub numbers_in_bytes : ℕ → List ℕ → List ℕ
+numbers_in_bytes zero bytes = []
+numbers_in_bytes (suc count) bytes = number_at 0 bytes
+    ∷ numbers_in_bytes count (drop number_bytes bytes)
 
 -- behind the name the number of its places, in two bytes
-abbrev pub places_of : List ℕ → ℕ
-places_of bytes = big_number 2 bytes
+abbrev pub place_count_in : List ℕ → ℕ
+place_count_in bytes = big_number 2 bytes
 
 -- the sets of these bytes, at most so many: of each the length of its name, the name, the number of
 -- its places, and the numbers at them
@@ -71,8 +72,8 @@ sets_of (suc most) [] = []
 sets_of (suc most) (size ∷ bytes) =
     record {
       name = take size bytes;
-      numbers = numbers_of (places_of (drop size bytes)) (drop (size + 2) bytes);
-    } ∷ sets_of most (drop (size + 2 + number_bytes * places_of (drop size bytes)) bytes)
+      numbers = numbers_in_bytes (place_count_in (drop size bytes)) (drop (size + 2) bytes);
+    } ∷ sets_of most (drop (size + 2 + number_bytes * place_count_in (drop size bytes)) bytes)
 
 abbrev pub sets_written : List ℕ → List TuneSet
 sets_written bytes = sets_of (length bytes) bytes
@@ -96,5 +97,5 @@ sets_in pages = sets_written (chain_at pages (number_at sets_offset (page_at pag
 abbrev pub pages_in : List ℕ → List (List ℕ)
 pages_in file =
     if gate_of file == gate_open
-    then changed (pages_of (new_count_of file) file) (log_of file)
+    then changed_pages (pages_of (new_count_of file) file) (log_of file)
     else pages_of (count_of file) file

@@ -68,5 +68,5 @@ abbrev pub written_text : ℕ → List ℕ → List ℕ
 written_text revision text = big_bytes revision_bytes revision ++ text
 
 -- a tune, as its chain holds it
-abbrev pub written_tune : Tune → List ℕ
-written_tune tune = written_text tune.revision tune.text
+abbrev pub stored_tune : Tune → List ℕ
+stored_tune tune = written_text tune.revision tune.text

@@ -4,7 +4,7 @@ ghost use Rattle.std.specs.List.{remove, insert};
 ghost use Rattle.tune_pages.specs.Stand.{Stand, PutsChain, HasChain, without_pages};
 ghost use Rattle.tune_parts.specs.Parts.{Part, HoldsParts, chain_part};
 ghost use Rattle.tune_store.specs.declared.tune.Tune.{Tune};
-ghost use Rattle.tune_format.specs.Filed.{row_of, rows_of, HoldsTuneAt};
+ghost use Rattle.tune_format.specs.Filed.{row_of_tune, rows_of_tunes, HoldsTuneAt};
 
 /// The laws of changes, of parts among which those of the tunes stand behind any others. A chain is
 /// freed before another one is put.
@@ -26,9 +26,10 @@ pub fn law_of_changes()
         → HasChain s at.part.first at.part.trail at.part.bytes }
     ensures row { (texts : List Part) (tunes : List Tune) (place : ℕ)
         → (at : HoldsTuneAt texts tunes place)
-        → (rows_of tunes texts
-        ≡ rows_of at.front at.before ++ row_of at.tune at.part ∷ rows_of at.back at.after)
-        × (length (rows_of at.front at.before) ≡ place) }
+        → (rows_of_tunes tunes texts
+        ≡ rows_of_tunes at.front at.before ++ row_of_tune at.tune at.part
+        ∷ rows_of_tunes at.back at.after)
+        × (length (rows_of_tunes at.front at.before) ≡ place) }
     ensures added { (s new : Stand) (ahead texts : List Part) (first : ℕ) (trail bytes : List ℕ)
         → HoldsParts s (ahead ++ texts) → PutsChain s new first trail bytes
         → HoldsParts new (ahead ++ (texts ++ chain_part first trail bytes ∷ [])) }

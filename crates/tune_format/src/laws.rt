@@ -16,14 +16,15 @@ ghost use Rattle.tune_store.specs.Limits.{notes_of};
 ghost use Rattle.tune_store.specs.State.{State, IsTunes, empty_of};
 ghost use Rattle.tune_store.specs.declared.layout.Layout.{Layout};
 ghost use Rattle.tune_store.specs.declared.tune.Tune.{Tune};
-ghost use Rattle.tune_format.specs.Filed.{row_of, rows_of, HoldTunes, HoldsTuneAt, Filed};
+ghost use Rattle.tune_format.specs.Filed.{row_of_tune, rows_of_tunes, HoldTunes, HoldsTuneAt};
+ghost use Rattle.tune_format.specs.Filed.{Filed};
 ghost use Rattle.tune_format.specs.Filed.{archive_parts, firsts_of, numbered_texts};
 ghost use Rattle.tune_format.specs.Searched.{AreSearchIndexes};
 ghost use Rattle.tune_format.specs.RootOffsets.{most_pages_of};
 ghost use Rattle.tune_format.specs.Reading.{tunes_in, sets_in, pages_in};
 ghost use Rattle.tune_format.specs.States.{IsStateOf, Holds, state_of_pages};
 ghost use Rattle.tune_format.specs.States.{state_in};
-ghost use Rattle.tune_format.specs.Written.{IsRoot, no_firsts, number_entries, written_tune};
+ghost use Rattle.tune_format.specs.Written.{IsRoot, no_firsts, number_entries, stored_tune};
 
 /// The laws of texts: of the parts that hold tunes, and of the rows of both.
 ///
@@ -45,31 +46,33 @@ pub fn law_of_texts()
         → HoldTunes (before ++ after) (front ++ back) }
     ensures rows { (before after : List Part) (front back : List Tune)
         → HoldTunes before front
-        → rows_of (front ++ back) (before ++ after) ≡ rows_of front before ++ rows_of back after }
+        → rows_of_tunes (front ++ back) (before ++ after) ≡ rows_of_tunes front before
+        ++ rows_of_tunes back after }
     ensures put { (texts : List Part) (tunes : List Tune) (place : ℕ) (part : Part) (tune : Tune)
-        → HoldTunes texts tunes → part.kind ≡ chain → part.bytes ≡ written_tune tune
+        → HoldTunes texts tunes → part.kind ≡ chain → part.bytes ≡ stored_tune tune
         → HoldTunes (slice_set texts place part) (slice_set tunes place tune) }
     ensures rows_put { (texts : List Part) (tunes : List Tune) (place : ℕ) (part : Part)
-        (tune : Tune) → rows_of (slice_set tunes place tune) (slice_set texts place part)
-        ≡ slice_set (rows_of tunes texts) place (row_of tune part) }
+        (tune : Tune) → rows_of_tunes (slice_set tunes place tune) (slice_set texts place part)
+        ≡ slice_set (rows_of_tunes tunes texts) place (row_of_tune tune part) }
     ensures cut { (texts : List Part) (tunes : List Tune) (place : ℕ) → HoldTunes texts tunes
         → HoldTunes (remove texts place) (remove tunes place) }
     ensures rows_cut { (texts : List Part) (tunes : List Tune) (place : ℕ)
         → HoldTunes texts tunes
-        → rows_of (remove tunes place) (remove texts place) ≡ remove (rows_of tunes texts) place }
+        → rows_of_tunes (remove tunes place) (remove texts place)
+        ≡ remove (rows_of_tunes tunes texts) place }
     ensures inserted { (texts : List Part) (tunes : List Tune) (place : ℕ) (part : Part)
         (tune : Tune) → HoldTunes texts tunes → part.kind ≡ chain
-        → part.bytes ≡ written_tune tune
+        → part.bytes ≡ stored_tune tune
         → HoldTunes (insert texts place part) (insert tunes place tune) }
     ensures rows_inserted { (texts : List Part) (tunes : List Tune) (place : ℕ) (part : Part)
         (tune : Tune) → HoldTunes texts tunes
-        → rows_of (insert tunes place tune) (insert texts place part)
-        ≡ insert (rows_of tunes texts) place (row_of tune part) }
+        → rows_of_tunes (insert tunes place tune) (insert texts place part)
+        ≡ insert (rows_of_tunes tunes texts) place (row_of_tune tune part) }
     ensures filed { (s : Stand) (layout : Layout) (numbers : IndexParts) (searches : SearchParts)
         (set_lists : Part) (texts : List Part) (tunes : List Tune) (sets : List TuneSet)
         → HoldsParts s (archive_parts numbers searches set_lists texts)
         → IsRoot layout (page_at s.pages 0) (firsts_of numbers searches set_lists)
-        → HoldsIndex key_bytes numbers (number_entries (rows_of tunes texts))
+        → HoldsIndex key_bytes numbers (number_entries (rows_of_tunes tunes texts))
         → AreSearchIndexes (notes_of layout) (numbered_texts tunes) searches
         → set_lists.kind ≡ chain → set_lists.bytes ≡ written_sets sets → HoldTunes texts tunes
         → Filed layout s.pages tunes sets }

@@ -4,10 +4,10 @@ use Rattle.std.proofs.Common.{replicate, ap, sym, ◌∙◌, arith, ℤ, pos, ap
 use Rattle.std.proofs.Common.{length-append}
 use Rattle.std.proofs.Math.Seq.{drop-append-add}
 use Rattle.std.proofs.lemmas.List.{take_more_set, set_split, drop-replicate, length-take, length-replicate}
-use Rattle.tune_incipit.specs.Inside.StepRows.{most_steps, padded, IsPadded}
+use Rattle.tune_incipit.specs.Inside.StepRows.{most_steps, padded_steps, IsPaddedRow}
 
 -- a row has eleven numbers
-pub length-row : (count : ℕ) (row : List ℤ) → count ≤ most_steps → IsPadded count row → length row ≡ most_steps
+pub length-row : (count : ℕ) (row : List ℤ) → count ≤ most_steps → IsPaddedRow count row → length row ≡ most_steps
 length-row count row few e =
     let long = ap length e.zeros in
     let zeros = most_steps - length (take count row) in
@@ -20,8 +20,8 @@ length-row count row few e =
     )
 
 -- a step that is put after the others
-pub padded_more : (count : ℕ) (row : List ℤ) (step : ℤ) → count < most_steps → IsPadded count row
-    → IsPadded (count + 1) (set row count step)
+pub padded_more : (count : ℕ) (row : List ℤ) (step : ℤ) → count < most_steps → IsPaddedRow count row
+    → IsPaddedRow (count + 1) (set row count step)
 padded_more count row step few e =
     let held : List ℤ = take count row in
     let held_long : length held ≡ count = e.steps in
@@ -37,5 +37,5 @@ padded_more count row step few e =
       zeros =
           set_split row count step (omega arith) ∙ ap (λ r. held ++ step ∷ r) rest
           ∙ sym (append_assoc held (step ∷ []) (replicate (most_steps - length (held ++ step ∷ [])) (pos 0)))
-          ∙ ap (padded most_steps) (sym more);
+          ∙ ap (padded_steps most_steps) (sym more);
     }

@@ -19,15 +19,16 @@ pub struct SmallSteps {
 
 impl Model for SmallSteps {
     ghost use Rattle.std.specs.Prelude.{◌≡◌, ◌≤◌, List, ℤ, length, take};
-    ghost use Rattle.tune_incipit.specs.Inside.StepRows.{most_steps, padded, IsPadded};
+    ghost use Rattle.tune_incipit.specs.Inside.StepRows.{most_steps, padded_steps, IsPaddedRow};
 
     ghost Value = { List ℤ };
 
     ghost view = { λ s. take s.count s.items };
 
-    ghost invariant = { λ s. (s.count ≤ most_steps) × IsPadded s.count s.items };
+    ghost invariant = { λ s. (s.count ≤ most_steps) × IsPaddedRow s.count s.items };
 
-    ghost inverse = { λ steps. record { items = padded most_steps steps; count = length steps } };
+    ghost inverse = { λ steps. record
+        { items = padded_steps most_steps steps; count = length steps } };
 
     ghost use Rattle.std.proofs.Common.{sym};
 

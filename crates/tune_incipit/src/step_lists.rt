@@ -5,7 +5,7 @@ ghost use Rattle.std.specs.Int.{w8};
 ghost use Rattle.std.specs.List.{AllWithin};
 ghost use Rattle.tune_incipit.specs.Incipits.{differences};
 ghost use Rattle.tune_incipit.specs.Limits.{most_notes};
-ghost use Rattle.tune_incipit.specs.Inside.StepRows.{most_steps, padded};
+ghost use Rattle.tune_incipit.specs.Inside.StepRows.{most_steps, padded_steps};
 
 use crate::incipits::MOST_NOTES;
 use std::marker::Model;
@@ -23,15 +23,16 @@ pub struct Steps {
 
 impl Model for Steps {
     ghost use Rattle.std.specs.Prelude.{◌≡◌, ◌≤◌, List, ℤ, length, take};
-    ghost use Rattle.tune_incipit.specs.Inside.StepRows.{most_steps, padded, IsPadded};
+    ghost use Rattle.tune_incipit.specs.Inside.StepRows.{most_steps, padded_steps, IsPaddedRow};
 
     ghost Value = { List ℤ };
 
     ghost view = { λ s. take s.count s.items };
 
-    ghost invariant = { λ s. (s.count ≤ most_steps) × IsPadded s.count s.items };
+    ghost invariant = { λ s. (s.count ≤ most_steps) × IsPaddedRow s.count s.items };
 
-    ghost inverse = { λ steps. record { items = padded most_steps steps; count = length steps } };
+    ghost inverse = { λ steps. record
+        { items = padded_steps most_steps steps; count = length steps } };
 
     ghost use Rattle.std.proofs.Common.{sym};
 
@@ -76,7 +77,7 @@ impl Steps {
 
     // The steps, and zeros behind them.
     pub(crate) fn row(&self) -> &[i32; MOST_STEPS]
-        ensures { result.now ≡ padded most_steps self.now }
+        ensures { result.now ≡ padded_steps most_steps self.now }
     {
         &self.items
     }

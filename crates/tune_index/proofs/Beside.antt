@@ -7,7 +7,7 @@ use Rattle.index_keys.specs.Entries.{AllFit, Entry, IsRising}
 use Rattle.tune_index.specs.Indexes.{AllLeaves, HasPages, IsIndex, Shape, entries_of, heads_of}
 use Rattle.tune_index.specs.Inside.EachPage.{HasEachPage}
 use Rattle.tune_index.specs.Leaves.{IsLeaf, leaf_in, slice_entry}
-use Rattle.tune_index.specs.ListedLeaves.{ClaimedPages, HasList, IndexWithEntries, LoadsIndex, StoresList, listed_bytes, pages_claimed, shown}
+use Rattle.tune_index.specs.ListedLeaves.{ClaimedPages, HasList, IndexWithEntries, LoadsIndex, StoresList, listed_bytes, pages_claimed, stand_of_pages}
 use Rattle.tune_index.proofs.EachPage.{all_of, each_of}
 use Rattle.tune_index.proofs.Puts.{leaves_within}
 
@@ -58,15 +58,15 @@ index_beside width old new before after shape trades has apart is =
     )
 
 -- THE SAME PAGES
-shown_form : (width : ℕ) (s : Stand) (pages : List ℕ) → AllLeaves width (shown s.pages) pages → AllLeaves width s pages
+shown_form : (width : ℕ) (s : Stand) (pages : List ℕ) → AllLeaves width (stand_of_pages s.pages) pages → AllLeaves width s pages
 shown_form width s [] form = tt
 shown_form width s (p ∷ ps) form = (form.0, shown_form width s ps form.1)
 
-shown_heads : (width : ℕ) (s : Stand) (pages : List ℕ) → heads_of width (shown s.pages) pages ≡ heads_of width s pages
+shown_heads : (width : ℕ) (s : Stand) (pages : List ℕ) → heads_of width (stand_of_pages s.pages) pages ≡ heads_of width s pages
 shown_heads width s [] = refl
 shown_heads width s (p ∷ ps) = ap (λ (es : List Entry). slice_entry (leaf_in width (image_at s p)) 0 ∷ es) (shown_heads width s ps)
 
-shown_entries : (width : ℕ) (s : Stand) (pages : List ℕ) → entries_of width (shown s.pages) pages ≡ entries_of width s pages
+shown_entries : (width : ℕ) (s : Stand) (pages : List ℕ) → entries_of width (stand_of_pages s.pages) pages ≡ entries_of width s pages
 shown_entries width s [] = refl
 shown_entries width s (p ∷ ps) = ap (λ (es : List Entry). leaf_in width (image_at s p) ++ es) (shown_entries width s ps)
 

@@ -6,7 +6,7 @@ use Rattle.std.proofs.lemmas.List.{take_all}
 use Rattle.byteorder.specs.Endian.{big_number, big_bytes}
 use Rattle.byteorder.specs.Numbers.{big_number-reads_back, length-bytes_high_first}
 use Rattle.index_keys.specs.Entries.{Entry, FitsLeaf, AllFit}
-use Rattle.tune_index.specs.Leaves.{capacity, value_in, value_bytes, count_in, count_bytes, entry_in, entries_in, leaf_in, entry_bytes}
+use Rattle.tune_index.specs.Leaves.{capacity, value_in, value_bytes, count_in, count_bytes, entry_in, entries_in, leaf_in, leaf_entry_bytes}
 
 pub leaf_in_is : (width : ℕ) (image : List ℕ) → leaf_in width image ≡ entries_in width (count_in image) (drop 2 image)
 unfolding leaf_in
@@ -37,7 +37,7 @@ drop_front (suc n) [] ys e = absurd (omega arith)
 drop_front (suc n) (x ∷ xs) ys e = drop_front n xs ys (omega arith)
 
 -- the bytes of an entry
-pub length-entry_bytes : (width : ℕ) (e : Entry) → length (entry_bytes width e) ≡ width + 4
+pub length-entry_bytes : (width : ℕ) (e : Entry) → length (leaf_entry_bytes width e) ≡ width + 4
 length-entry_bytes width e =
     let a = length-append (big_bytes width e.0) (value_bytes e.1) in
     let b = length-bytes_high_first width e.0 in
@@ -45,9 +45,9 @@ length-entry_bytes width e =
     omega (arith, a, b, d)
 
 -- the entry that was written is the one that is read
-pub entry_back : (width : ℕ) (e : Entry) (rest : List ℕ) → FitsLeaf width e → entry_in width (entry_bytes width e ++ rest) ≡ e
+pub entry_back : (width : ℕ) (e : Entry) (rest : List ℕ) → FitsLeaf width e → entry_in width (leaf_entry_bytes width e ++ rest) ≡ e
 entry_back width e rest fits =
-    let s : entry_bytes width e ++ rest ≡ big_bytes width e.0 ++ (value_bytes e.1 ++ rest) = append_assoc (big_bytes width e.0) (value_bytes e.1) rest in
+    let s : leaf_entry_bytes width e ++ rest ≡ big_bytes width e.0 ++ (value_bytes e.1 ++ rest) = append_assoc (big_bytes width e.0) (value_bytes e.1) rest in
     let k : big_number width (big_bytes width e.0 ++ (value_bytes e.1 ++ rest)) ≡ e.0 = big_number-reads_back width e.0 (value_bytes e.1 ++ rest) fits.key in
     let d : drop width (big_bytes width e.0 ++ (value_bytes e.1 ++ rest)) ≡ value_bytes e.1 ++ rest =
     drop_front width (big_bytes width e.0) (value_bytes e.1 ++ rest) (length-bytes_high_first width e.0) in

@@ -1,7 +1,7 @@
 -- What an edit of a leaf in memory does, from what the search and the test said of the slices that they were lent.
 use Rattle.std.proofs.Common.{◌≡◌, ℕ, ◌<◌, List, length, get_or, sym, subst, IsTrue, Bool, true, false}
 use Rattle.std.specs.List.{HoldsAt, insert, remove}
-use Rattle.index_keys.specs.Entries.{Entry, rank, IsRising, inserted, removed}
+use Rattle.index_keys.specs.Entries.{Entry, rank, IsRising, entry_inserted, removed}
 use Rattle.tune_index.specs.Inside.EntryPlaces.{IsPlace}
 use Rattle.tune_index.proofs.Lists.{inserted-at, inserted-same, removed-at, removed-same}
 
@@ -32,10 +32,10 @@ past es s t i e b h up is l d =
     let m : i < length t = subst (λ (x : List Entry). i < length x) (sym h.second) l in
     subst (λ (x : List Entry). rank e < rank (get_or x i d)) h.second (h.other is m p d)
 
-pub inserts : (es s t : List Entry) (i : ℕ) (e : Entry) (b : Bool) → Searched es s t i e b → b ≡ false → IsRising es → insert es i e ≡ inserted e es
+pub inserts : (es s t : List Entry) (i : ℕ) (e : Entry) (b : Bool) → Searched es s t i e b → b ≡ false → IsRising es → insert es i e ≡ entry_inserted e es
 inserts es s t i e b h is up = sym (inserted-at es i e (found es s t i e b h up) (past es s t i e b h up is))
 
-pub keeps : (es s t : List Entry) (i : ℕ) (e : Entry) (b : Bool) → Searched es s t i e b → b ≡ true → IsRising es → es ≡ inserted e es
+pub keeps : (es s t : List Entry) (i : ℕ) (e : Entry) (b : Bool) → Searched es s t i e b → b ≡ true → IsRising es → es ≡ entry_inserted e es
 keeps es s t i e b h is up = sym (inserted-same es i e (found es s t i e b h up) (inside es s t i e b h is) (there es s t i e b h up is))
 
 pub removes : (es s t : List Entry) (i : ℕ) (e : Entry) (b : Bool) → Searched es s t i e b → b ≡ true → IsRising es → remove es i ≡ removed e es

@@ -8,7 +8,7 @@ use Rattle.std.specs.List.{insert, remove}
 use Rattle.byteorder.specs.Endian.{big_number}
 use Rattle.byteorder.specs.Numbers.{big_from-append}
 use Rattle.index_keys.specs.Entries.{Entry, FitsLeaf}
-use Rattle.tune_index.specs.Leaves.{count_bytes, count_in, entries_in, entry_bytes, entry_in, leaf_in, value_in}
+use Rattle.tune_index.specs.Leaves.{count_bytes, count_in, entries_in, leaf_entry_bytes, entry_in, leaf_in, value_in}
 use Rattle.tune_index.proofs.Codec.{count_back, drop_front, entry_back, leaf_in_is, length-count_bytes}
 use Rattle.tune_index.proofs.Codec.{length-entries_in, length-entry_bytes, length-leaf_in, to_end}
 
@@ -79,7 +79,7 @@ halves width n i m bytes s room =
 
 -- AN ENTRY MORE
 pub put_entries : (width n i m : ℕ) (e : Entry) (old new rest : List ℕ) → n ≡ i + m → n * (width + 4) ≤ length old → FitsLeaf width e
-    → new ≡ take (i * (width + 4)) old ++ ((entry_bytes width e ++ take (m * (width + 4)) (drop (i * (width + 4)) old)) ++ rest)
+    → new ≡ take (i * (width + 4)) old ++ ((leaf_entry_bytes width e ++ take (m * (width + 4)) (drop (i * (width + 4)) old)) ++ rest)
     → entries_in width (n + 1) new ≡ insert (entries_in width n old) i e
 put_entries width n i m e old new rest s room fits is =
     let front = take (i * (width + 4)) old in
@@ -89,15 +89,15 @@ put_entries width n i m e old new rest s room fits is =
     let f : length front ≡ i * (width + 4) = length-front width n i old (omega arith) room in
     let l : length mid ≡ m * (width + 4) = length-behind width n i m old s room in
     let a : (m + 1) * (width + 4) ≡ m * (width + 4) + 1 * (width + 4) = add-mul m 1 (width + 4) in
-    let both : length (entry_bytes width e ++ mid) ≡ suc m * (width + 4) =
-    omega (arith, length-append (entry_bytes width e) mid, length-entry_bytes width e, l, a) in
+    let both : length (leaf_entry_bytes width e ++ mid) ≡ suc m * (width + 4) =
+    omega (arith, length-append (leaf_entry_bytes width e) mid, length-entry_bytes width e, l, a) in
     let first = entry_back width e mid fits in
-    let later : drop (width + 4) (entry_bytes width e ++ mid) ≡ mid = drop_front (width + 4) (entry_bytes width e) mid (length-entry_bytes width e) in
-    let added : entries_in width (suc m) (entry_bytes width e ++ mid) ≡ e ∷ B =
-    ap (λ (x : Entry). x ∷ entries_in width m (drop (width + 4) (entry_bytes width e ++ mid))) first
+    let later : drop (width + 4) (leaf_entry_bytes width e ++ mid) ≡ mid = drop_front (width + 4) (leaf_entry_bytes width e) mid (length-entry_bytes width e) in
+    let added : entries_in width (suc m) (leaf_entry_bytes width e ++ mid) ≡ e ∷ B =
+    ap (λ (x : Entry). x ∷ entries_in width m (drop (width + 4) (leaf_entry_bytes width e ++ mid))) first
     ∙ ap (λ (x : List ℕ). e ∷ entries_in width m x) later in
     let made : entries_in width (n + 1) new ≡ A ++ (e ∷ B) =
-    ap (entries_in width (n + 1)) is ∙ parts width (n + 1) i (suc m) front (entry_bytes width e ++ mid) rest (omega arith) f both
+    ap (entries_in width (n + 1)) is ∙ parts width (n + 1) i (suc m) front (leaf_entry_bytes width e ++ mid) rest (omega arith) f both
     ∙ ap (λ (x : List Entry). A ++ x) added in
     let count : length A ≡ i = length-entries_in width i front in
     let before : take i (A ++ B) ≡ A = take_at A B i count in
@@ -107,13 +107,13 @@ put_entries width n i m e old new rest s room fits is =
 
 -- an entry that is written behind some
 pub next_entry : (width i : ℕ) (e : Entry) (es : List Entry) (old new rest : List ℕ) → (i + 1) * (width + 4) ≤ length old → FitsLeaf width e
-    → entries_in width i old ≡ es → new ≡ take (i * (width + 4)) old ++ (entry_bytes width e ++ rest) → entries_in width (i + 1) new ≡ es ++ e ∷ []
+    → entries_in width i old ≡ es → new ≡ take (i * (width + 4)) old ++ (leaf_entry_bytes width e ++ rest) → entries_in width (i + 1) new ≡ es ++ e ∷ []
 next_entry width i e es old new rest room fits so_far is =
     let a : (i + 1) * (width + 4) ≡ i * (width + 4) + 1 * (width + 4) = add-mul i 1 (width + 4) in
     let z : 0 * (width + 4) ≡ 0 = zero-mul (width + 4) in
     let n : i ≡ i + 0 = omega arith in
-    let none : entry_bytes width e ++ take (0 * (width + 4)) (drop (i * (width + 4)) old) ≡ entry_bytes width e =
-    ap (λ (k : ℕ). entry_bytes width e ++ take k (drop (i * (width + 4)) old)) z ∙ append-nil (entry_bytes width e) in
+    let none : leaf_entry_bytes width e ++ take (0 * (width + 4)) (drop (i * (width + 4)) old) ≡ leaf_entry_bytes width e =
+    ap (λ (k : ℕ). leaf_entry_bytes width e ++ take k (drop (i * (width + 4)) old)) z ∙ append-nil (leaf_entry_bytes width e) in
     let made = put_entries width i i 0 e old new rest n (omega (arith, a)) fits
     (is ∙ ap (λ (x : List ℕ). take (i * (width + 4)) old ++ (x ++ rest)) (sym none)) in
     let count : length es ≡ i = sym (ap length so_far) ∙ length-entries_in width i old in

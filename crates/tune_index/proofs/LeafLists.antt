@@ -8,7 +8,7 @@ use Rattle.tune_pages.specs.Frame.{mark_at, Apart, TradesPages, image_at, InUse,
 use Rattle.index_keys.specs.Entries.{Entry, IsRising, AllFit}
 use Rattle.tune_index.specs.Indexes.{entries_of, heads_of, AllLeaves, IsIndex, Shape}
 use Rattle.tune_index.specs.Inside.EachPage.{HasEachPage}
-use Rattle.tune_index.specs.Inside.LeafLists.{leaves_of, joined, firsts, HasLeaves}
+use Rattle.tune_index.specs.Inside.LeafLists.{leaves_of, joined_leaves, firsts, HasLeaves}
 use Rattle.tune_index.specs.Leaves.{slice_entry, leaf_in, IsLeaf}
 use Rattle.tune_pages.proofs.Marks.{apart_or, not_both}
 use Rattle.index_keys.proofs.Members.{contains_first, contains_later, contains_cases, contains_none}
@@ -16,7 +16,7 @@ use Rattle.std.proofs.lemmas.List.{take-append-drop, drop-drop}
 use Rattle.tune_index.proofs.Puts.{put_form, put_in_use}
 
 -- THE TWO VIEWS OF AN INDEX
-entries_joined : (width : ℕ) (all : Stand) (pages : List ℕ) → entries_of width all pages ≡ joined (leaves_of width all pages)
+entries_joined : (width : ℕ) (all : Stand) (pages : List ℕ) → entries_of width all pages ≡ joined_leaves (leaves_of width all pages)
 entries_joined width all [] = refl
 entries_joined width all (p ∷ ps) = ap (λ (x : List Entry). leaf_in width (image_at all p) ++ x) (entries_joined width all ps)
 
@@ -28,11 +28,12 @@ pub leaves_of_index : (width : ℕ) (all : Stand) (shape : Shape) → IsIndex wi
 leaves_of_index width all shape ix = record { are = refl; heads = ix.heads ∙ heads_firsts width all shape.pages; form = ix.form }
 
 pub leaves_entries : (width : ℕ) (all : Stand) (shape : Shape) (leaves : List (List Entry)) → HasLeaves width all shape leaves
-    → entries_of width all shape.pages ≡ joined leaves
-leaves_entries width all shape leaves h = entries_joined width all shape.pages ∙ ap joined h.are
+    → entries_of width all shape.pages ≡ joined_leaves leaves
+leaves_entries width all shape leaves h = entries_joined width all shape.pages ∙ ap joined_leaves h.are
 
-pub index_of_leaves : (width : ℕ) (all : Stand) (shape : Shape) (leaves : List (List Entry)) → HasLeaves width all shape leaves → IsRising (joined leaves)
-    → AllFit width (joined leaves) → IsIndex width all shape
+pub index_of_leaves : (width : ℕ) (all : Stand) (shape : Shape) (leaves : List (List Entry)) → HasLeaves width all shape leaves
+    → IsRising (joined_leaves leaves)
+    → AllFit width (joined_leaves leaves) → IsIndex width all shape
 index_of_leaves width all shape leaves h up fit = record {
   form = h.form;
   heads = h.heads ∙ ap firsts (sym h.are) ∙ sym (heads_firsts width all shape.pages);
@@ -317,16 +318,17 @@ drop_insert (x ∷ xs) zero y l = refl
 drop_insert (x ∷ xs) (suc i) y l = drop_insert xs i y (omega arith)
 
 joined_set_next : (leaves : List (List Entry)) (i : ℕ) (leaf : List Entry) → i < length leaves
-    → joined (set leaves i leaf) ≡ joined (take i leaves) ++ (leaf ++ joined (drop (suc i) leaves))
+    → joined_leaves (set leaves i leaf) ≡ joined_leaves (take i leaves) ++ (leaf ++ joined_leaves (drop (suc i) leaves))
 joined_set_next [] i leaf l = absurd (omega arith)
 joined_set_next (r ∷ leaves) zero leaf l = refl
 joined_set_next (r ∷ leaves) (suc i) leaf l = ap (λ (x : List Entry). r ++ x) (joined_set_next leaves i leaf (omega arith))
-    ∙ sym (append_assoc r (joined (take i leaves)) (leaf ++ joined (drop (suc i) leaves)))
+    ∙ sym (append_assoc r (joined_leaves (take i leaves)) (leaf ++ joined_leaves (drop (suc i) leaves)))
 
 pub joined_set : (leaves : List (List Entry)) (i : ℕ) (leaf : List Entry) → i < length leaves
-    → joined (set leaves i leaf) ≡ joined (take i leaves) ++ (leaf ++ joined (drop (i + 1) leaves))
+    → joined_leaves (set leaves i leaf) ≡ joined_leaves (take i leaves) ++ (leaf ++ joined_leaves (drop (i + 1) leaves))
 joined_set leaves i leaf l = let e : suc i ≡ i + 1 = omega arith in
-    subst (λ (k : ℕ). joined (set leaves i leaf) ≡ joined (take i leaves) ++ (leaf ++ joined (drop k leaves))) e (joined_set_next leaves i leaf l)
+    subst (λ (k : ℕ). joined_leaves (set leaves i leaf) ≡ joined_leaves (take i leaves) ++ (leaf ++ joined_leaves (drop k leaves))) e
+    (joined_set_next leaves i leaf l)
 
 length-leaves_of : (width : ℕ) (all : Stand) (pages : List ℕ) → length (leaves_of width all pages) ≡ length pages
 length-leaves_of width all [] = refl
@@ -339,7 +341,7 @@ length-leaves width all shape leaves h = ap length (sym h.are) ∙ length-leaves
 -- what was spread so far: the leaves before the place stay, and those behind it hold the last entries
 pub record Spread (place rest : ℕ) (entries : List Entry) (leaves more : List (List Entry)) : Type 0 where
   pub before : take place more ≡ take place leaves
-  pub behind : joined (drop (place + 1) more) ≡ drop rest entries ++ joined (drop (place + 1) leaves)
+  pub behind : joined_leaves (drop (place + 1) more) ≡ drop rest entries ++ joined_leaves (drop (place + 1) leaves)
 
 pub spread_more : (place from rest : ℕ) (entries leaf : List Entry) (leaves more : List (List Entry)) → Spread place rest entries leaves more → from ≤ rest
     → place + 1 ≤ length more
@@ -351,18 +353,18 @@ spread_more place from rest entries leaf leaves more s l n is = record {
       sym (take-append-drop (rest - from) (drop from entries)) in
       let d : drop (rest - from) (drop from entries) ≡ drop rest entries = drop-drop (rest - from) from entries
       ∙ ap (λ (k : ℕ). drop k entries) (omega arith) in
-      ap joined (drop_insert more (place + 1) leaf n) ∙ ap (λ (x : List Entry). leaf ++ x) s.behind
-      ∙ sym (append_assoc leaf (drop rest entries) (joined (drop (place + 1) leaves)))
-      ∙ ap (λ (x : List Entry). x ++ joined (drop (place + 1) leaves)) (ap (λ (x : List Entry). x ++ drop rest entries) is
+      ap joined_leaves (drop_insert more (place + 1) leaf n) ∙ ap (λ (x : List Entry). leaf ++ x) s.behind
+      ∙ sym (append_assoc leaf (drop rest entries) (joined_leaves (drop (place + 1) leaves)))
+      ∙ ap (λ (x : List Entry). x ++ joined_leaves (drop (place + 1) leaves)) (ap (λ (x : List Entry). x ++ drop rest entries) is
       ∙ ap (λ (x : List Entry). take (rest - from) (drop from entries) ++ x) (sym d) ∙ sym parts);
 }
 
 pub spread_done : (place rest : ℕ) (entries leaf : List Entry) (leaves more : List (List Entry)) → Spread place rest entries leaves more → place < length more
     → leaf ≡ take rest entries
-    → joined (set more place leaf) ≡ joined (take place leaves) ++ (entries ++ joined (drop (place + 1) leaves))
+    → joined_leaves (set more place leaf) ≡ joined_leaves (take place leaves) ++ (entries ++ joined_leaves (drop (place + 1) leaves))
 spread_done place rest entries leaf leaves more s n is =
-    joined_set more place leaf n ∙ ap (λ (x : List (List Entry)). joined x ++ (leaf ++ joined (drop (place + 1) more))) s.before
-    ∙ ap (λ (x : List Entry). joined (take place leaves) ++ (leaf ++ x)) s.behind
-    ∙ ap (λ (x : List Entry). joined (take place leaves) ++ x) (sym (append_assoc leaf (drop rest entries) (joined (drop (place + 1) leaves)))
-    ∙ ap (λ (x : List Entry). (x ++ drop rest entries) ++ joined (drop (place + 1) leaves)) is
-    ∙ ap (λ (x : List Entry). x ++ joined (drop (place + 1) leaves)) (take-append-drop rest entries))
+    joined_set more place leaf n ∙ ap (λ (x : List (List Entry)). joined_leaves x ++ (leaf ++ joined_leaves (drop (place + 1) more))) s.before
+    ∙ ap (λ (x : List Entry). joined_leaves (take place leaves) ++ (leaf ++ x)) s.behind
+    ∙ ap (λ (x : List Entry). joined_leaves (take place leaves) ++ x) (sym (append_assoc leaf (drop rest entries) (joined_leaves (drop (place + 1) leaves)))
+    ∙ ap (λ (x : List Entry). (x ++ drop rest entries) ++ joined_leaves (drop (place + 1) leaves)) is
+    ∙ ap (λ (x : List Entry). x ++ joined_leaves (drop (place + 1) leaves)) (take-append-drop rest entries))

@@ -2,7 +2,7 @@
 use Rattle.std.proofs.Common.{◌≡◌, ◌≢◌, ℕ, zero, suc, ◌+◌, ◌<◌, List, [], ◌∷◌, ◌++◌, length, get_or, refl, sym, ap, ◌∙◌, arith, inl, inr}
 use Rattle.std.proofs.lemmas.Bool.{cases_lt, cases_eq}
 use Rattle.std.specs.List.{insert, remove}
-use Rattle.index_keys.specs.Entries.{Entry, rank, RisesFrom, IsRising, inserted, removed}
+use Rattle.index_keys.specs.Entries.{Entry, rank, EntriesRiseFrom, IsRising, entry_inserted, removed}
 use Rattle.index_keys.proofs.RisingEntries.{inserted_front, inserted_later, inserted_there, removed_later, removed_there, rises_pair}
 use Rattle.tune_index.specs.Inside.EntryPlaces.{IsPlace}
 
@@ -16,7 +16,7 @@ place_tail r x xs i p = record {
 
 -- an entry that is not there goes in at its place
 pub inserted-at : (es : List Entry) (i : ℕ) (e : Entry) → IsPlace (rank e) es i → (i < length es → (d : Entry) → rank e < rank (get_or es i d))
-    → inserted e es ≡ insert es i e
+    → entry_inserted e es ≡ insert es i e
 inserted-at [] zero e p o = refl
 inserted-at [] (suc i) e p o = let h = p.in_range in absurd (omega arith)
 inserted-at (x ∷ xs) zero e p o = inserted_front e x xs (o (omega arith) e)
@@ -26,7 +26,7 @@ inserted-at (x ∷ xs) (suc i) e p o =
 
 -- an entry that is there stays
 pub inserted-same : (es : List Entry) (i : ℕ) (e : Entry) → IsPlace (rank e) es i → i < length es → ((d : Entry) → rank (get_or es i d) ≡ rank e)
-    → inserted e es ≡ es
+    → entry_inserted e es ≡ es
 inserted-same [] i e p l o = absurd (omega arith)
 inserted-same (x ∷ xs) zero e p l o = inserted_there e x xs (o e)
 inserted-same (x ∷ xs) (suc i) e p l o =
@@ -63,7 +63,7 @@ BeginsAfter r [] = Unit {0}
 BeginsAfter r (z ∷ zs) = r < rank z
 
 -- an entry before what follows goes into the front
-pub inserted-before : (ys zs : List Entry) (e : Entry) → BeginsAfter (rank e) zs → inserted e (ys ++ zs) ≡ inserted e ys ++ zs
+pub inserted-before : (ys zs : List Entry) (e : Entry) → BeginsAfter (rank e) zs → entry_inserted e (ys ++ zs) ≡ entry_inserted e ys ++ zs
 inserted-before [] [] e b = refl
 inserted-before [] (z ∷ zs) e b = inserted_front e z zs b
 inserted-before (y ∷ ys) zs e b = elim (cases_lt (rank e) (rank y)) [
@@ -76,12 +76,12 @@ inserted-before (y ∷ ys) zs e b = elim (cases_lt (rank e) (rank y)) [
 ]
 
 -- nothing after the entry is the entry
-removed-later_all : (low : ℕ) (zs : List Entry) (e : Entry) → RisesFrom low zs → rank e < low → removed e zs ≡ zs
+removed-later_all : (low : ℕ) (zs : List Entry) (e : Entry) → EntriesRiseFrom low zs → rank e < low → removed e zs ≡ zs
 removed-later_all low [] e r b = refl
 removed-later_all low (z ∷ zs) e r b = let h = r.0 in removed_later e z zs (omega arith)
     ∙ ap (λ (x : List Entry). z ∷ x) (removed-later_all (rank z + 1) zs e r.1 (omega arith))
 
-pub removed-before : (low : ℕ) (ys zs : List Entry) (e : Entry) → RisesFrom low zs → rank e < low → removed e (ys ++ zs) ≡ removed e ys ++ zs
+pub removed-before : (low : ℕ) (ys zs : List Entry) (e : Entry) → EntriesRiseFrom low zs → rank e < low → removed e (ys ++ zs) ≡ removed e ys ++ zs
 removed-before low [] zs e r b = removed-later_all low zs e r b
 removed-before low (y ∷ ys) zs e r b = elim (cases_eq (rank y) (rank e)) [
   | inl there ↦ removed_there e y (ys ++ zs) there ∙ sym (ap (λ (x : List Entry). x ++ zs) (removed_there e y ys there))

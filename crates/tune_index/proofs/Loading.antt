@@ -20,7 +20,7 @@ use Rattle.index_keys.proofs.RisingEntries.{rises_front}
 use Rattle.tune_index.specs.Indexes.{AllLeaves, Shape, entries_of, heads_of}
 use Rattle.tune_index.specs.Inside.Loading.{LoadsLeaf}
 use Rattle.tune_index.specs.Leaves.{slice_entry, leaf_in, value_bytes, value_in, IsLeaf}
-use Rattle.tune_index.specs.ListedLeaves.{StoredIndex, IsStored, index_with, listed_bytes, numbers_in, pages_claimed, shown}
+use Rattle.tune_index.specs.ListedLeaves.{StoredIndex, IsStored, index_with, listed_bytes, numbers_in, pages_claimed, stand_of_pages}
 use Rattle.tune_index.proofs.Puts.{leaves_within}
 use Rattle.tune_index.proofs.Storing.{length-listed}
 use Rattle.tune_index.proofs.Ranges.{entries_of-push}
@@ -69,9 +69,9 @@ fit_join width (x ∷ xs) ys f h = (f.0, fit_join width xs ys f.1 h)
 -- what was loaded so far: the first leaves of the list
 pub record LoadedSoFar (width : ℕ) (pages : List (List ℕ)) (bytes : List ℕ) (first i : ℕ) (shape : Shape) (es : List Entry) : Type 0 where
   pub leaves : shape.pages ≡ numbers_in i bytes
-  pub form : AllLeaves width (shown pages) shape.pages
-  pub entries : es ≡ entries_of width (shown pages) shape.pages
-  pub heads : shape.heads ≡ heads_of width (shown pages) shape.pages
+  pub form : AllLeaves width (stand_of_pages pages) shape.pages
+  pub entries : es ≡ entries_of width (stand_of_pages pages) shape.pages
+  pub heads : shape.heads ≡ heads_of width (stand_of_pages pages) shape.pages
   pub first_is : shape.first ≡ first
   pub listed : shape.listed ≡ true
   pub fit : AllFit width es
@@ -81,7 +81,7 @@ pub loaded_more : (width : ℕ) (pages : List (List ℕ)) (bytes : List ℕ) (fi
     → page ≡ value_in (drop (4 * i) bytes) → LoadsLeaf width pages page (index_with was old) (index_with is new)
     → LoadedSoFar width pages bytes first (suc i) is new
 loaded_more width pages bytes first i page was is old new so at leaf =
-    let s = shown pages in
+    let s = stand_of_pages pages in
     let e : is.pages ≡ was.pages ++ page ∷ [] = leaf.pages_are in
     record {
       leaves = e ∙ ap (λ (x : List ℕ). x ++ page ∷ []) so.leaves ∙ ap (λ (p : ℕ). numbers_in i bytes ++ p ∷ []) at ∙ sym (numbers-push i bytes);
@@ -169,7 +169,7 @@ pub stored_within : (width most : ℕ) (pages : List (List ℕ)) (claimed : List
 stored_within width most pages claimed first sized (trail, leaves, stored) =
     let count = chain_count pages first trail (listed_bytes leaves) sized stored.list.chain in
     let size = length-listed leaves in
-    let few = leaves_within width (shown pages) leaves stored.form in
+    let few = leaves_within width (stand_of_pages pages) leaves stored.form in
     let more = pages_more (length (listed_bytes leaves)) (most * 4) (let m = stored.few in omega (arith, size, few, m)) in
     (trail, listed_bytes leaves, stored.list, omega (arith, count, more))
   where
@@ -187,7 +187,7 @@ pub stored_next : (width most : ℕ) (pages : List (List ℕ)) (claimed now : Li
     × (length (old ++ leaf_in width (page_at pages page)) ≤ most)
 stored_next width most pages claimed now first i page trail bytes was old small list so after room at (t, leaves, stored) =
     let is = stored_bytes width most pages claimed first trail bytes t leaves small list stored in
-    let s = shown pages in
+    let s = stand_of_pages pages in
     let split = numbers-split i (length leaves) bytes (omega (arith, is.1, room)) in
     let whole : leaves ≡ was.pages ++ page ∷ split.0 = is.2 ∙ split.1 ∙ ap (λ (p : ℕ). numbers_in i bytes ++ p ∷ split.0) (sym at)
     ∙ ap (λ (x : List ℕ). x ++ page ∷ split.0) (sym so.leaves) in

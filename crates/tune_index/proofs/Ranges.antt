@@ -6,7 +6,7 @@ use Rattle.std.proofs.lemmas.Bool.Decides.{nat_tests}
 use Rattle.std.proofs.lemmas.List.{take_more, append-nil, get_or_default}
 use Rattle.tune_pages.specs.Stand.{Stand}
 use Rattle.tune_pages.specs.Frame.{image_at, InUse}
-use Rattle.index_keys.specs.Entries.{Entry, rank, RisesFrom, values_within, AllFit}
+use Rattle.index_keys.specs.Entries.{Entry, rank, EntriesRiseFrom, values_within, AllFit}
 use Rattle.index_keys.proofs.RisingEntries.{rises_middle}
 use Rattle.tune_index.specs.Indexes.{entries_of}
 use Rattle.tune_index.specs.Inside.EachPage.{HasEachPage}
@@ -37,7 +37,7 @@ values_within-append low high (x ∷ xs) ys = elim (cases_lt x.0 low) [
 ]
 
 -- what stands before an entry that is not past the range's begin has no entry of the range
-pub none_below : (low high place : ℕ) (xs : List Entry) (y : Entry) (ys : List Entry) → RisesFrom place (xs ++ y ∷ ys) → rank y ≤ rank (low, 0)
+pub none_below : (low high place : ℕ) (xs : List Entry) (y : Entry) (ys : List Entry) → EntriesRiseFrom place (xs ++ y ∷ ys) → rank y ≤ rank (low, 0)
     → values_within low high xs ≡ []
 none_below low high place [] y ys r l = refl
 none_below low high place (x ∷ xs) y ys r l =
@@ -45,7 +45,7 @@ none_below low high place (x ∷ xs) y ys r l =
     below_first low high x xs (omega (arith, m, l)) ∙ none_below low high (rank x + 1) xs y ys r.1 l
 
 -- what rises from past the range's end has none
-pub none_above : (width low high place : ℕ) (xs : List Entry) → AllFit width xs → RisesFrom place xs → rank (high + 1, 0) ≤ place
+pub none_above : (width low high place : ℕ) (xs : List Entry) → AllFit width xs → EntriesRiseFrom place xs → rank (high + 1, 0) ≤ place
     → values_within low high xs ≡ []
 none_above width low high place [] f r l = refl
 none_above width low high place (x ∷ xs) f r l =

@@ -8,11 +8,11 @@ use Rattle.std.proofs.lemmas.List.{get_or-drop}
 use Rattle.std.proofs.lemmas.Bool.{cases_lt}
 use Rattle.tune_pages.specs.Stand.{Stand}
 use Rattle.tune_pages.specs.Frame.{image_at}
-use Rattle.index_keys.specs.Entries.{Entry, rank, RisesFrom, IsRising, inserted, removed, AllFit, inserted_all}
+use Rattle.index_keys.specs.Entries.{Entry, rank, EntriesRiseFrom, IsRising, entry_inserted, removed, AllFit, inserted_all}
 use Rattle.index_keys.proofs.RisingEntries.{inserted_all_fit, inserted_all_rises, inserted_later, removed-rises, removed_fit, removed_later, rises_back}
 use Rattle.index_keys.proofs.RisingEntries.{rises_front, rises_lower}
 use Rattle.tune_index.specs.Indexes.{AllLeaves, IsIndex, Shape, entries_of}
-use Rattle.tune_index.specs.Inside.LeafLists.{HasLeaves, joined, firsts, leaves_of}
+use Rattle.tune_index.specs.Inside.LeafLists.{HasLeaves, joined_leaves, firsts, leaves_of}
 use Rattle.tune_index.specs.Inside.EntryPlaces.{IsPlace, AllBelow}
 use Rattle.tune_index.specs.Leaves.{slice_entry, leaf_in}
 use Rattle.tune_index.proofs.Lists.{inserted-before, removed-before}
@@ -26,7 +26,7 @@ below_more : (r s : ℕ) (es : List Entry) → r ≤ s → AllBelow r es → All
 below_more r s [] l b = tt
 below_more r s (e ∷ es) l b = (let h = b.0 in omega arith, below_more r s es l b.1)
 
-inserted_past : (xs ys : List Entry) (e : Entry) → AllBelow (rank e) xs → inserted e (xs ++ ys) ≡ xs ++ inserted e ys
+inserted_past : (xs ys : List Entry) (e : Entry) → AllBelow (rank e) xs → entry_inserted e (xs ++ ys) ≡ xs ++ entry_inserted e ys
 inserted_past [] ys e b = refl
 inserted_past (x ∷ xs) ys e b = inserted_later e x (xs ++ ys) b.0 ∙ ap (λ (z : List Entry). x ∷ z) (inserted_past xs ys e b.1)
 
@@ -35,19 +35,19 @@ abbrev AllBefore : List Entry → List Entry → Type 0
 AllBefore [] after = Unit {0}
 AllBefore (e ∷ es) after = BeginsAfter (rank e) after × AllBefore es after
 
-inserted_middle : (low : ℕ) (before leaf after run : List Entry) → AllBelow low before → RisesFrom low run → AllBefore run after
+inserted_middle : (low : ℕ) (before leaf after run : List Entry) → AllBelow low before → EntriesRiseFrom low run → AllBefore run after
     → inserted_all run (before ++ (leaf ++ after)) ≡ before ++ (inserted_all run leaf ++ after)
 inserted_middle low before leaf after [] b r a = refl
 inserted_middle low before leaf after (e ∷ run) b r a =
     let here : AllBelow (rank e) before = below_more low (rank e) before r.0 b in
-    let one : inserted e (before ++ (leaf ++ after)) ≡ before ++ (inserted e leaf ++ after) = inserted_past before (leaf ++ after) e here
+    let one : entry_inserted e (before ++ (leaf ++ after)) ≡ before ++ (entry_inserted e leaf ++ after) = inserted_past before (leaf ++ after) e here
     ∙ ap (λ (x : List Entry). before ++ x) (inserted-before leaf after e a.0) in
     ap (inserted_all run) one
-    ∙ inserted_middle (rank e + 1) before (inserted e leaf) after run (below_more (rank e) (rank e + 1) before (omega arith) here) r.1 a.1
+    ∙ inserted_middle (rank e + 1) before (entry_inserted e leaf) after run (below_more (rank e) (rank e + 1) before (omega arith) here) r.1 a.1
 
 pub inserted_all-append : (xs ys es : List Entry) → inserted_all (xs ++ ys) es ≡ inserted_all ys (inserted_all xs es)
 inserted_all-append [] ys es = refl
-inserted_all-append (x ∷ xs) ys es = inserted_all-append xs ys (inserted x es)
+inserted_all-append (x ∷ xs) ys es = inserted_all-append xs ys (entry_inserted x es)
 
 -- what stands before a place, and what is before the next leaf
 below_nothing : (r i : ℕ) → AllBelow r (take i [])
@@ -76,11 +76,11 @@ none_before [] = tt
 none_before (e ∷ run) = (tt, none_before run)
 
 -- what stands before an entry of a list that rises is below it
-at_least : (low : ℕ) (xs : List Entry) (y : Entry) (ys : List Entry) → RisesFrom low (xs ++ y ∷ ys) → low ≤ rank y
+at_least : (low : ℕ) (xs : List Entry) (y : Entry) (ys : List Entry) → EntriesRiseFrom low (xs ++ y ∷ ys) → low ≤ rank y
 at_least low [] y ys r = r.0
 at_least low (x ∷ xs) y ys r = let m = at_least (rank x + 1) xs y ys r.1 in let h = r.0 in omega arith
 
-rises_below : (low : ℕ) (xs : List Entry) (y : Entry) (ys : List Entry) → RisesFrom low (xs ++ y ∷ ys) → AllBelow (rank y) xs
+rises_below : (low : ℕ) (xs : List Entry) (y : Entry) (ys : List Entry) → EntriesRiseFrom low (xs ++ y ∷ ys) → AllBelow (rank y) xs
 rises_below low [] y ys r = tt
 rises_below low (x ∷ xs) y ys r = (let m = at_least (rank x + 1) xs y ys r.1 in omega arith, rises_below (rank x + 1) xs y ys r.1)
 
@@ -98,15 +98,16 @@ are_begun width all shape leaves h = subst (λ (x : List (List Entry)). AllBegun
 
 -- leaves before a place, at it and after it
 joined_at : (leaves : List (List Entry)) (i : ℕ) → i < length leaves
-    → joined leaves ≡ joined (take i leaves) ++ (slice_index_or leaves i [] ++ joined (drop (suc i) leaves))
+    → joined_leaves leaves ≡ joined_leaves (take i leaves) ++ (slice_index_or leaves i [] ++ joined_leaves (drop (suc i) leaves))
 joined_at [] i l = absurd (omega arith)
 joined_at (r ∷ leaves) zero l = refl
 joined_at (r ∷ leaves) (suc i) l = ap (λ (x : List Entry). r ++ x) (joined_at leaves i (omega arith))
-    ∙ sym (append_assoc r (joined (take i leaves)) (slice_index_or leaves i [] ++ joined (drop (suc i) leaves)))
+    ∙ sym (append_assoc r (joined_leaves (take i leaves)) (slice_index_or leaves i [] ++ joined_leaves (drop (suc i) leaves)))
 
-first_of_joined : (leaves : List (List Entry)) → AllBegun leaves → slice_entry (firsts leaves) 0 ≡ slice_entry (joined leaves) 0
+first_of_joined : (leaves : List (List Entry)) → AllBegun leaves → slice_entry (firsts leaves) 0 ≡ slice_entry (joined_leaves leaves) 0
 first_of_joined [] b = refl
-first_of_joined (r ∷ leaves) b = ap (λ (x : List Entry). slice_entry x 0) b.0.is ∙ sym (ap (λ (x : List Entry). slice_entry (x ++ joined leaves) 0) b.0.is)
+first_of_joined (r ∷ leaves) b = ap (λ (x : List Entry). slice_entry x 0) b.0.is
+    ∙ sym (ap (λ (x : List Entry). slice_entry (x ++ joined_leaves leaves) 0) b.0.is)
 
 firsts-drop : (leaves : List (List Entry)) (i : ℕ) → firsts (drop i leaves) ≡ drop i (firsts leaves)
 firsts-drop [] zero = refl
@@ -136,45 +137,46 @@ drop_none [] (suc i) l = refl
 drop_none (x ∷ xs) zero l = absurd (omega arith)
 drop_none (x ∷ xs) (suc i) l = drop_none xs i (omega arith)
 
-below_leaf : (low : ℕ) (leaves : List (List Entry)) (i : ℕ) → i < length leaves → AllBegun leaves → IsRising (joined leaves)
-    → (i ≡ 0) ⊎ (rank (slice_entry (firsts leaves) i) ≤ low) → AllBelow low (joined (take i leaves))
-below_leaf low leaves i l b up (inl e) = subst (λ (k : ℕ). AllBelow low (joined (take k leaves))) (sym e) tt
+below_leaf : (low : ℕ) (leaves : List (List Entry)) (i : ℕ) → i < length leaves → AllBegun leaves → IsRising (joined_leaves leaves)
+    → (i ≡ 0) ⊎ (rank (slice_entry (firsts leaves) i) ≤ low) → AllBelow low (joined_leaves (take i leaves))
+below_leaf low leaves i l b up (inl e) = subst (λ (k : ℕ). AllBelow low (joined_leaves (take k leaves))) (sym e) tt
 below_leaf low leaves i l b up (inr h) =
     let leaf = slice_index_or leaves i [] in
     let w = begun_at leaves i l b in
-    let before = joined (take i leaves) in
-    let after = joined (drop (suc i) leaves) in
+    let before = joined_leaves (take i leaves) in
+    let after = joined_leaves (drop (suc i) leaves) in
     let whole : IsRising (before ++ (leaf ++ after)) = subst (λ (x : List Entry). IsRising x) (joined_at leaves i l) up in
-    let s : RisesFrom 0 (before ++ (w.head ∷ (w.rest ++ after))) = subst (λ (x : List Entry). RisesFrom 0 (before ++ (x ++ after))) w.is whole in
+    let s : EntriesRiseFrom 0 (before ++ (w.head ∷ (w.rest ++ after))) = subst (λ (x : List Entry). EntriesRiseFrom 0 (before ++ (x ++ after))) w.is whole in
     let k : slice_entry (firsts leaves) i ≡ w.head = first_at leaves i l ∙ ap (λ (x : List Entry). slice_entry x 0) w.is in
     let m : rank w.head ≤ low = subst (λ (x : Entry). rank x ≤ low) k h in
     below_more (rank w.head) low before m (rises_below 0 before w.head (w.rest ++ after) s)
 
 above_leaf : (leaves : List (List Entry)) (i : ℕ) (run : List Entry) → AllBegun leaves
-    → (i + 1 < length leaves → AllBelow (rank (slice_entry (firsts leaves) (i + 1))) run) → AllBefore run (joined (drop (i + 1) leaves))
+    → (i + 1 < length leaves → AllBelow (rank (slice_entry (firsts leaves) (i + 1))) run) → AllBefore run (joined_leaves (drop (i + 1) leaves))
 above_leaf leaves i run b h = elim (cases_lt (i + 1) (length leaves)) [
   | inl more ↦
-      let first : slice_entry (joined (drop (i + 1) leaves)) 0 ≡ slice_entry (firsts leaves) (i + 1) =
+      let first : slice_entry (joined_leaves (drop (i + 1) leaves)) 0 ≡ slice_entry (firsts leaves) (i + 1) =
       sym (first_of_joined (drop (i + 1) leaves) (begun-drop leaves (i + 1) b)) ∙ ap (λ (x : List Entry). slice_entry x 0) (firsts-drop leaves (i + 1))
       ∙ get_or-drop (i + 1) (firsts leaves) 0 (0, 0) ∙ ap (λ (k : ℕ). slice_entry (firsts leaves) k) (omega arith) in
-      all_before (rank (slice_entry (firsts leaves) (i + 1))) run (joined (drop (i + 1) leaves)) (h more)
-      (λ _. let e : rank (slice_entry (joined (drop (i + 1) leaves)) 0) ≡ rank (slice_entry (firsts leaves) (i + 1)) = ap rank first in omega arith)
-  | inr none ↦ subst (λ (x : List (List Entry)). AllBefore run (joined x)) (sym (drop_none leaves (i + 1) none)) (none_before run)
+      all_before (rank (slice_entry (firsts leaves) (i + 1))) run (joined_leaves (drop (i + 1) leaves)) (h more)
+      (λ _. let e : rank (slice_entry (joined_leaves (drop (i + 1) leaves)) 0) ≡ rank (slice_entry (firsts leaves) (i + 1)) = ap rank first in omega arith)
+  | inr none ↦ subst (λ (x : List (List Entry)). AllBefore run (joined_leaves x)) (sym (drop_none leaves (i + 1) none)) (none_before run)
 ]
 
 -- THE ENTRIES OF AN INDEX after a run went into the leaf where it belongs
 pub run_middle : (width : ℕ) (old : Stand) (was : Shape) (i low : ℕ) (run : List Entry) → IsIndex width old was → i < length was.pages
-    → RisesFrom low run → (i ≡ 0) ⊎ (rank (slice_entry was.heads i) ≤ low) → (i + 1 < length was.pages → AllBelow (rank (slice_entry was.heads (i + 1))) run)
-    → joined (take i (leaves_of width old was.pages))
-    ++ (inserted_all run (slice_index_or (leaves_of width old was.pages) i []) ++ joined (drop (i + 1) (leaves_of width old was.pages)))
+    → EntriesRiseFrom low run → (i ≡ 0) ⊎ (rank (slice_entry was.heads i) ≤ low)
+    → (i + 1 < length was.pages → AllBelow (rank (slice_entry was.heads (i + 1))) run)
+    → joined_leaves (take i (leaves_of width old was.pages))
+    ++ (inserted_all run (slice_index_or (leaves_of width old was.pages) i []) ++ joined_leaves (drop (i + 1) (leaves_of width old was.pages)))
     ≡ inserted_all run (entries_of width old was.pages)
 run_middle width old was i low run ix l r from to =
     let leaves = leaves_of width old was.pages in
     let are = leaves_of_index width old was ix in
     let n : length leaves ≡ length was.pages = length-leaves width old was leaves are in
     let b = are_begun width old was leaves are in
-    let entries : entries_of width old was.pages ≡ joined leaves = leaves_entries width old was leaves are in
-    let up : IsRising (joined leaves) = subst (λ (x : List Entry). IsRising x) entries ix.rising in
+    let entries : entries_of width old was.pages ≡ joined_leaves leaves = leaves_entries width old was leaves are in
+    let up : IsRising (joined_leaves leaves) = subst (λ (x : List Entry). IsRising x) entries ix.rising in
     let heads : was.heads ≡ firsts leaves = are.heads in
     let from2 : (i ≡ 0) ⊎ (rank (slice_entry (firsts leaves) i) ≤ low) = subst (λ (x : List Entry). (i ≡ 0) ⊎ (rank (slice_entry x i) ≤ low)) heads from in
     let to2 : i + 1 < length leaves → AllBelow (rank (slice_entry (firsts leaves) (i + 1))) run =
@@ -183,34 +185,36 @@ run_middle width old was i low run ix l r from to =
     let below = below_leaf low leaves i li b up from2 in
     let above = above_leaf leaves i run b to2 in
     let s : suc i ≡ i + 1 = omega arith in
-    let whole : joined leaves ≡ joined (take i leaves) ++ (slice_index_or leaves i [] ++ joined (drop (i + 1) leaves)) =
-    subst (λ (k : ℕ). joined leaves ≡ joined (take i leaves) ++ (slice_index_or leaves i [] ++ joined (drop k leaves))) s (joined_at leaves i li) in
-    sym (inserted_middle low (joined (take i leaves)) (slice_index_or leaves i []) (joined (drop (i + 1) leaves)) run below r above)
+    let whole : joined_leaves leaves ≡ joined_leaves (take i leaves) ++ (slice_index_or leaves i [] ++ joined_leaves (drop (i + 1) leaves)) =
+    subst (λ (k : ℕ). joined_leaves leaves ≡ joined_leaves (take i leaves) ++ (slice_index_or leaves i [] ++ joined_leaves (drop k leaves))) s
+    (joined_at leaves i li) in
+    sym (inserted_middle low (joined_leaves (take i leaves)) (slice_index_or leaves i []) (joined_leaves (drop (i + 1) leaves)) run below r above)
     ∙ ap (inserted_all run) (sym whole) ∙ ap (inserted_all run) (sym entries)
 
 pub run_inserted : (width : ℕ) (old new : Stand) (was is : Shape) (i low : ℕ) (run : List Entry) (more : List (List Entry)) → IsIndex width old was
     → i < length was.pages
-    → RisesFrom low run → AllFit width run → (i ≡ 0) ⊎ (rank (slice_entry was.heads i) ≤ low)
+    → EntriesRiseFrom low run → AllFit width run → (i ≡ 0) ⊎ (rank (slice_entry was.heads i) ≤ low)
     → (i + 1 < length was.pages → AllBelow (rank (slice_entry was.heads (i + 1))) run)
     → HasLeaves width new is more
-    → joined more ≡ joined (take i (leaves_of width old was.pages))
-    ++ (inserted_all run (slice_index_or (leaves_of width old was.pages) i []) ++ joined (drop (i + 1) (leaves_of width old was.pages)))
+    → joined_leaves more ≡ joined_leaves (take i (leaves_of width old was.pages))
+    ++ (inserted_all run (slice_index_or (leaves_of width old was.pages) i []) ++ joined_leaves (drop (i + 1) (leaves_of width old was.pages)))
     → IsIndex width new is × (entries_of width new is.pages ≡ inserted_all run (entries_of width old was.pages))
 run_inserted width old new was is i low run more ix l r fit from to h e =
-    let put : joined more ≡ inserted_all run (entries_of width old was.pages) = e ∙ run_middle width old was i low run ix l r from to in
-    let up2 : IsRising (joined more) = subst (λ (x : List Entry). IsRising x) (sym put) (inserted_all_rises run (entries_of width old was.pages) ix.rising) in
-    let fit2 : AllFit width (joined more) =
+    let put : joined_leaves more ≡ inserted_all run (entries_of width old was.pages) = e ∙ run_middle width old was i low run ix l r from to in
+    let up2 : IsRising (joined_leaves more) = subst (λ (x : List Entry). IsRising x) (sym put)
+    (inserted_all_rises run (entries_of width old was.pages) ix.rising) in
+    let fit2 : AllFit width (joined_leaves more) =
     subst (λ (x : List Entry). AllFit width x) (sym put) (inserted_all_fit width run (entries_of width old was.pages) fit ix.fit) in
     (index_of_leaves width new is more h up2 fit2, leaves_entries width new is more h ∙ put)
 
 -- a list that rises, from its first entry on
-pub rises_from_first : (low : ℕ) (es : List Entry) → (0 < length es → low ≤ rank (slice_entry es 0)) → IsRising es → RisesFrom low es
+pub rises_from_first : (low : ℕ) (es : List Entry) → (0 < length es → low ≤ rank (slice_entry es 0)) → IsRising es → EntriesRiseFrom low es
 rises_from_first low [] h r = tt
 rises_from_first low (e ∷ es) h r = (h (omega arith), r.1)
 
 -- a leaf of an index rises
-leaf_rises_from : (low width : ℕ) (all : Stand) (pages : List ℕ) (i : ℕ) → i < length pages → RisesFrom low (entries_of width all pages)
-    → RisesFrom 0 (slice_index_or (leaves_of width all pages) i [])
+leaf_rises_from : (low width : ℕ) (all : Stand) (pages : List ℕ) (i : ℕ) → i < length pages → EntriesRiseFrom low (entries_of width all pages)
+    → EntriesRiseFrom 0 (slice_index_or (leaves_of width all pages) i [])
 leaf_rises_from low width all [] i l r = absurd (omega arith)
 leaf_rises_from low width all (p ∷ ps) zero l r =
     rises_lower 0 low (leaf_in width (image_at all p)) (omega arith) (rises_front low (leaf_in width (image_at all p)) (entries_of width all ps) r)
@@ -240,7 +244,7 @@ removed_past : (xs ys : List Entry) (e : Entry) → AllBelow (rank e) xs → rem
 removed_past [] ys e b = refl
 removed_past (x ∷ xs) ys e b = let h = b.0 in removed_later e x (xs ++ ys) (omega arith) ∙ ap (λ (z : List Entry). x ∷ z) (removed_past xs ys e b.1)
 
-begins_after : (r : ℕ) (zs : List Entry) → BeginsAfter r zs → IsRising zs → RisesFrom (r + 1) zs
+begins_after : (r : ℕ) (zs : List Entry) → BeginsAfter r zs → IsRising zs → EntriesRiseFrom (r + 1) zs
 begins_after r [] b up = tt
 begins_after r (z ∷ zs) b up = (omega arith, up.1)
 
@@ -250,24 +254,24 @@ removed_middle before leaf after e b up a =
     removed_past before (leaf ++ after) e b
     ∙ ap (λ (x : List Entry). before ++ x) (removed-before (rank e + 1) leaf after e (begins_after (rank e) after a up) (omega arith))
 
-joined-append : (xs ys : List (List Entry)) → joined (xs ++ ys) ≡ joined xs ++ joined ys
+joined-append : (xs ys : List (List Entry)) → joined_leaves (xs ++ ys) ≡ joined_leaves xs ++ joined_leaves ys
 joined-append [] ys = refl
-joined-append (x ∷ xs) ys = ap (λ (z : List Entry). x ++ z) (joined-append xs ys) ∙ sym (append_assoc x (joined xs) (joined ys))
+joined-append (x ∷ xs) ys = ap (λ (z : List Entry). x ++ z) (joined-append xs ys) ∙ sym (append_assoc x (joined_leaves xs) (joined_leaves ys))
 
 pub entry_removed : (width : ℕ) (old new : Stand) (was is : Shape) (i : ℕ) (e : Entry) (more : List (List Entry)) → IsIndex width old was → i < length was.pages
     → (i ≡ 0) ⊎ (rank (slice_entry was.heads i) ≤ rank e) → (i + 1 < length was.pages → rank e < rank (slice_entry was.heads (i + 1)))
     → HasLeaves width new is more
-    → joined more ≡ joined (take i (leaves_of width old was.pages))
-    ++ (removed e (slice_index_or (leaves_of width old was.pages) i []) ++ joined (drop (i + 1) (leaves_of width old was.pages)))
+    → joined_leaves more ≡ joined_leaves (take i (leaves_of width old was.pages))
+    ++ (removed e (slice_index_or (leaves_of width old was.pages) i []) ++ joined_leaves (drop (i + 1) (leaves_of width old was.pages)))
     → IsIndex width new is × (entries_of width new is.pages ≡ removed e (entries_of width old was.pages))
 entry_removed width old new was is i e more ix l from to h eq =
     let leaves = leaves_of width old was.pages in
     let are = leaves_of_index width old was ix in
     let n : length leaves ≡ length was.pages = length-leaves width old was leaves are in
     let b = are_begun width old was leaves are in
-    let entries : entries_of width old was.pages ≡ joined leaves = leaves_entries width old was leaves are in
-    let up : IsRising (joined leaves) = subst (λ (x : List Entry). IsRising x) entries ix.rising in
-    let all_fit : AllFit width (joined leaves) = subst (λ (x : List Entry). AllFit width x) entries ix.fit in
+    let entries : entries_of width old was.pages ≡ joined_leaves leaves = leaves_entries width old was leaves are in
+    let up : IsRising (joined_leaves leaves) = subst (λ (x : List Entry). IsRising x) entries ix.rising in
+    let all_fit : AllFit width (joined_leaves leaves) = subst (λ (x : List Entry). AllFit width x) entries ix.fit in
     let heads : was.heads ≡ firsts leaves = are.heads in
     let from2 : (i ≡ 0) ⊎ (rank (slice_entry (firsts leaves) i) ≤ rank e) =
     subst (λ (x : List Entry). (i ≡ 0) ⊎ (rank (slice_entry x i) ≤ rank e)) heads from in
@@ -275,19 +279,21 @@ entry_removed width old new was is i e more ix l from to h eq =
     λ m. (subst (λ (x : List Entry). rank e < rank (slice_entry x (i + 1))) heads (to (omega (arith, m, n))), tt) in
     let li : i < length leaves = omega (arith, l, n) in
     let below = below_leaf (rank e) leaves i li b up from2 in
-    let above : AllBefore (e ∷ []) (joined (drop (i + 1) leaves)) = above_leaf leaves i (e ∷ []) b to2 in
+    let above : AllBefore (e ∷ []) (joined_leaves (drop (i + 1) leaves)) = above_leaf leaves i (e ∷ []) b to2 in
     let s : suc i ≡ i + 1 = omega arith in
-    let whole : joined leaves ≡ joined (take i leaves) ++ (slice_index_or leaves i [] ++ joined (drop (i + 1) leaves)) =
-    subst (λ (k : ℕ). joined leaves ≡ joined (take i leaves) ++ (slice_index_or leaves i [] ++ joined (drop k leaves))) s (joined_at leaves i li) in
-    let after_up : IsRising (joined (drop (i + 1) leaves)) =
-    rises_back 0 (slice_index_or leaves i []) (joined (drop (i + 1) leaves))
-    (rises_back 0 (joined (take i leaves)) (slice_index_or leaves i [] ++ joined (drop (i + 1) leaves)) (subst (λ (x : List Entry). IsRising x) whole up))
+    let whole : joined_leaves leaves ≡ joined_leaves (take i leaves) ++ (slice_index_or leaves i [] ++ joined_leaves (drop (i + 1) leaves)) =
+    subst (λ (k : ℕ). joined_leaves leaves ≡ joined_leaves (take i leaves) ++ (slice_index_or leaves i [] ++ joined_leaves (drop k leaves))) s
+    (joined_at leaves i li) in
+    let after_up : IsRising (joined_leaves (drop (i + 1) leaves)) =
+    rises_back 0 (slice_index_or leaves i []) (joined_leaves (drop (i + 1) leaves))
+    (rises_back 0 (joined_leaves (take i leaves)) (slice_index_or leaves i [] ++ joined_leaves (drop (i + 1) leaves))
+    (subst (λ (x : List Entry). IsRising x) whole up))
     in
-    let put : joined more ≡ removed e (joined leaves) = eq
-    ∙ sym (removed_middle (joined (take i leaves)) (slice_index_or leaves i []) (joined (drop (i + 1) leaves)) e below after_up above.0)
+    let put : joined_leaves more ≡ removed e (joined_leaves leaves) = eq
+    ∙ sym (removed_middle (joined_leaves (take i leaves)) (slice_index_or leaves i []) (joined_leaves (drop (i + 1) leaves)) e below after_up above.0)
     ∙ ap (removed e) (sym whole) in
-    let up2 : IsRising (joined more) = subst (λ (x : List Entry). IsRising x) (sym put) (removed-rises 0 (joined leaves) e up) in
-    let fit2 : AllFit width (joined more) = subst (λ (x : List Entry). AllFit width x) (sym put) (removed_fit width (joined leaves) e all_fit) in
+    let up2 : IsRising (joined_leaves more) = subst (λ (x : List Entry). IsRising x) (sym put) (removed-rises 0 (joined_leaves leaves) e up) in
+    let fit2 : AllFit width (joined_leaves more) = subst (λ (x : List Entry). AllFit width x) (sym put) (removed_fit width (joined_leaves leaves) e all_fit) in
     (index_of_leaves width new is more h up2 fit2, leaves_entries width new is more h ∙ put ∙ ap (removed e) (sym entries))
 
 -- THE FIRST LEAVES
@@ -300,11 +306,11 @@ below_push : (r : ℕ) (es : List Entry) (e : Entry) → AllBelow r es → rank 
 below_push r [] e b l = (l, tt)
 below_push r (x ∷ xs) e b l = (b.0, below_push r xs e b.1 l)
 
-inserted_behind : (low : ℕ) (before run : List Entry) → AllBelow low before → RisesFrom low run → inserted_all run before ≡ before ++ run
+inserted_behind : (low : ℕ) (before run : List Entry) → AllBelow low before → EntriesRiseFrom low run → inserted_all run before ≡ before ++ run
 inserted_behind low before [] b r = sym (append-nil before)
 inserted_behind low before (e ∷ run) b r =
     let here : AllBelow (rank e) before = below_more low (rank e) before r.0 b in
-    let one : inserted e before ≡ before ++ e ∷ [] = inserted_end before e here in
+    let one : entry_inserted e before ≡ before ++ e ∷ [] = inserted_end before e here in
     ap (inserted_all run) one
     ∙ inserted_behind (rank e + 1) (before ++ e ∷ []) run
     (below_push (rank e + 1) before e (below_more (rank e) (rank e + 1) before (omega arith) here) (omega arith)) r.1
@@ -314,7 +320,7 @@ pub inserted_in_none : (run : List Entry) → IsRising run → inserted_all run 
 inserted_in_none run up = inserted_behind 0 [] run tt up
 
 pub first_leaves : (width : ℕ) (old new : Stand) (was is : Shape) (run : List Entry) (more : List (List Entry)) → IsRising run → AllFit width run
-    → length was.pages ≤ 0 → HasLeaves width new is more → joined more ≡ run
+    → length was.pages ≤ 0 → HasLeaves width new is more → joined_leaves more ≡ run
     → IsIndex width new is × (entries_of width new is.pages ≡ inserted_all (take (length run) run) (entries_of width old was.pages))
 first_leaves width old new was is run more up fit n h e =
     let none : was.pages ≡ [] = none_at_all was.pages n in
@@ -327,8 +333,8 @@ first_leaves width old new was is run more up fit n h e =
 
 -- A LEAF THAT LOST AN ENTRY
 pub drop_done : (leaves : List (List Entry)) (i : ℕ) (gone : List Entry) → gone ≡ []
-    → joined (remove leaves i) ≡ joined (take i leaves) ++ (gone ++ joined (drop (i + 1) leaves))
+    → joined_leaves (remove leaves i) ≡ joined_leaves (take i leaves) ++ (gone ++ joined_leaves (drop (i + 1) leaves))
 drop_done leaves i gone e =
     let s : suc i ≡ i + 1 = omega arith in
-    joined-append (take i leaves) (drop (suc i) leaves) ∙ ap (λ (k : ℕ). joined (take i leaves) ++ joined (drop k leaves)) s
-    ∙ ap (λ (x : List Entry). joined (take i leaves) ++ (x ++ joined (drop (i + 1) leaves))) (sym e)
+    joined-append (take i leaves) (drop (suc i) leaves) ∙ ap (λ (k : ℕ). joined_leaves (take i leaves) ++ joined_leaves (drop k leaves)) s
+    ∙ ap (λ (x : List Entry). joined_leaves (take i leaves) ++ (x ++ joined_leaves (drop (i + 1) leaves))) (sym e)

@@ -6,7 +6,7 @@ use Rattle.std.proofs.Math.Nat.{add-mul, mul-le-mul_right, zero-mul}
 use Rattle.std.proofs.lemmas.List.{append-nil, get_or_default, take-append-drop}
 use Rattle.tune_pages.specs.Frame.{image_at}
 use Rattle.tune_pages.specs.Stand.{Stand}
-use Rattle.index_keys.specs.Entries.{AllFit, Entry, IsRising, RisesFrom, rank, values_within}
+use Rattle.index_keys.specs.Entries.{AllFit, Entry, IsRising, EntriesRiseFrom, rank, values_within}
 use Rattle.index_keys.proofs.RisingEntries.{rises_pair}
 use Rattle.tune_index.specs.Inside.EntryPlaces.{AllBelow, IsPlace}
 use Rattle.tune_index.specs.Indexes.{entries_of}
@@ -77,7 +77,7 @@ one_within low high i es e t a b =
     ∙ ap (λ (x : List ℕ). values_within low high (take i es) ++ x) (within_first low high e [] a b)
 
 -- from an entry behind the range on there is none that is in it
-rest_none : (width low high place i : ℕ) (es : List Entry) (e : Entry) → RisesFrom place es → AllFit width es → i < length es → e ≡ get_or es i e
+rest_none : (width low high place i : ℕ) (es : List Entry) (e : Entry) → EntriesRiseFrom place es → AllFit width es → i < length es → e ≡ get_or es i e
     → high < e.0 → values_within low high (drop i es) ≡ []
 rest_none width low high place i [] e r f l is h = absurd (omega arith)
 rest_none width low high place zero (x ∷ xs) e r f l is h =

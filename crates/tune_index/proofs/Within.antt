@@ -4,7 +4,7 @@ use Rattle.std.proofs.Common.{append_assoc, inl, inr, subst}
 use Rattle.std.proofs.lemmas.List.{append-nil, take-append-drop}
 use Rattle.tune_pages.specs.Frame.{image_at}
 use Rattle.tune_pages.specs.Stand.{Stand}
-use Rattle.index_keys.specs.Entries.{AllFit, Entry, RisesFrom, rank, values_within}
+use Rattle.index_keys.specs.Entries.{AllFit, Entry, EntriesRiseFrom, rank, values_within}
 use Rattle.index_keys.proofs.RisingEntries.{rises_back}
 use Rattle.tune_index.specs.Indexes.{AllLeaves, entries_of, heads_of}
 use Rattle.tune_index.specs.Leaves.{leaf_in, slice_entry}
@@ -30,15 +30,15 @@ head_at width all (q ∷ qs) zero l = refl
 head_at width all (q ∷ qs) (suc i) l = head_at width all qs i (omega arith)
 
 -- what begins above the range has no entry of it
-past_high : (width low high place : ℕ) (es : List Entry) (b : Begun es) → AllFit width es → RisesFrom place es → rank (high, 0) < rank (b.head.0, 0)
+past_high : (width low high place : ℕ) (es : List Entry) (b : Begun es) → AllFit width es → EntriesRiseFrom place es → rank (high, 0) < rank (b.head.0, 0)
     → values_within low high es ≡ []
 past_high width low high place es b fit up l =
     let f : AllFit width (b.head ∷ b.rest) = rw b.is at fit in
-    let r : RisesFrom place (b.head ∷ b.rest) = rw b.is at up in
+    let r : EntriesRiseFrom place (b.head ∷ b.rest) = rw b.is at up in
     ap (values_within low high) b.is ∙ none_above width low high (rank b.head) (b.head ∷ b.rest) f (omega arith, r.1) (omega (arith, l))
 
 -- the leaves before one that begins no later than the range have no entry of it
-pub none_before : (width low high place i : ℕ) (all : Stand) (pages : List ℕ) → AllLeaves width all pages → RisesFrom place (entries_of width all pages)
+pub none_before : (width low high place i : ℕ) (all : Stand) (pages : List ℕ) → AllLeaves width all pages → EntriesRiseFrom place (entries_of width all pages)
     → i < length pages → (i ≡ 0) ⊎ (rank (slice_entry (heads_of width all pages) i) ≤ rank (low, 0))
     → values_within low high (entries_of width all (take i pages)) ≡ []
 none_before width low high place i all pages form up l (inl first) =
@@ -51,11 +51,11 @@ none_before width low high place i all pages form up l (inr no_later) =
     let is : slice_entry (heads_of width all pages) i ≡ b.head = head_at width all pages i l ∙ ap (λ (x : List Entry). slice_entry x 0) b.is in
     let whole : entries_of width all pages ≡ before ++ (b.head ∷ (b.rest ++ after)) =
     entries_at width all pages i l ∙ ap (λ (x : List Entry). before ++ (x ++ after)) b.is in
-    none_below low high place before b.head (b.rest ++ after) (subst (λ (x : List Entry). RisesFrom place x) whole up)
+    none_below low high place before b.head (b.rest ++ after) (subst (λ (x : List Entry). EntriesRiseFrom place x) whole up)
     (subst (λ (e : Entry). rank e ≤ rank (low, 0)) is no_later)
 
 -- nor has a leaf that begins above it, or one behind that
-pub none_behind : (width low high place i : ℕ) (all : Stand) (pages : List ℕ) → AllLeaves width all pages → RisesFrom place (entries_of width all pages)
+pub none_behind : (width low high place i : ℕ) (all : Stand) (pages : List ℕ) → AllLeaves width all pages → EntriesRiseFrom place (entries_of width all pages)
     → AllFit width (entries_of width all pages) → i < length pages → rank (high, 0) < rank ((slice_entry (heads_of width all pages) i).0, 0)
     → values_within low high (entries_of width all (drop i pages)) ≡ []
 none_behind width low high place i all [] form up fit l past = absurd (omega arith)

@@ -42,8 +42,8 @@ pub record IsLeaf (width : ℕ) (image : List ℕ) : Type 0 where
   pub within : count_in image ≤ capacity width
 
 -- the bytes of an entry
-abbrev pub entry_bytes : ℕ → Entry → List ℕ
-entry_bytes width e = big_bytes width e.0 ++ value_bytes e.1
+abbrev pub leaf_entry_bytes : ℕ → Entry → List ℕ
+leaf_entry_bytes width e = big_bytes width e.0 ++ value_bytes e.1
 
 -- the entry at a place, where there is one
 abbrev pub slice_entry : List Entry → ℕ → Entry

@@ -30,8 +30,8 @@ StoresList old new first next pages = (trail all : List ℕ) → HasChain old fi
     × TradesPages trail along old new
 
 -- the pages, none of them in use, as a `Stand` has them
-abbrev pub shown : List (List ℕ) → Stand
-shown pages = record { pages = pages; used = [] }
+abbrev pub stand_of_pages : List (List ℕ) → Stand
+stand_of_pages pages = record { pages = pages; used = [] }
 
 -- pages, and which of them are claimed
 pub record ClaimedPages : Type 0 where
@@ -49,9 +49,9 @@ pub record StoredIndex (width most : ℕ) (now : ClaimedPages) (first : ℕ) (tr
     : Type 0 where
   pub list : Claimable now.pages now.claimed first trail (listed_bytes leaves)
   pub free : AllFree leaves (marked true trail now.claimed)
-  pub form : AllLeaves width (shown now.pages) leaves
-  pub rising : IsRising (entries_of width (shown now.pages) leaves)
-  pub few : length (entries_of width (shown now.pages) leaves) ≤ most
+  pub form : AllLeaves width (stand_of_pages now.pages) leaves
+  pub rising : IsRising (entries_of width (stand_of_pages now.pages) leaves)
+  pub few : length (entries_of width (stand_of_pages now.pages) leaves) ≤ most
 
 -- some index is stored there
 abbrev pub IsStored : ℕ → ℕ → List (List ℕ) → List Bool → ℕ → Type 0
@@ -74,8 +74,8 @@ pub record LoadsIndex (width most : ℕ) (was : ClaimedPages) (after : List Bool
   pub trail : List ℕ
   pub stored : StoredIndex width most was first trail loaded.shape.pages
   pub marks : after ≡ marked true loaded.shape.pages (marked true trail was.claimed)
-  pub are : loaded.entries ≡ entries_of width (shown was.pages) loaded.shape.pages
-  pub heads : loaded.shape.heads ≡ heads_of width (shown was.pages) loaded.shape.pages
+  pub are : loaded.entries ≡ entries_of width (stand_of_pages was.pages) loaded.shape.pages
+  pub heads : loaded.shape.heads ≡ heads_of width (stand_of_pages was.pages) loaded.shape.pages
   pub begins : loaded.shape.first ≡ first
   pub listed : loaded.shape.listed ≡ true
   pub fit : AllFit width loaded.entries

@@ -8,7 +8,7 @@ ghost use Rattle.tune_pages.specs.Work.{stand, Fits};
 ghost use Rattle.index_keys.specs.Entries.{Entry};
 ghost use Rattle.tune_index.specs.IndexAnswers.{AnswersChange};
 ghost use Rattle.tune_index.specs.Indexes.{HasPages, KeepsBalance, KeepsList};
-ghost use Rattle.tune_index.specs.Inside.LeafLists.{HasLeaves, joined};
+ghost use Rattle.tune_index.specs.Inside.LeafLists.{HasLeaves, joined_leaves};
 ghost use Rattle.tune_index.specs.Leaves.{IsLeaf, capacity, leaf_in, slice_entry};
 
 use crate::index::{Index, leaf_count, leaf_page};
@@ -353,8 +353,9 @@ pub(crate) fn spread<D: Disk, const W: usize>(
         → (leaves : List (List Entry))
         → HasLeaves W (stand pages.now work.old) index.old leaves → (more : List (List Entry))
         × HasLeaves W (stand pages.now work.new) index.new more
-        × (joined more
-        ≡ joined (take place leaves) ++ (entries.now ++ joined (drop (place + 1) leaves)))) }
+        × (joined_leaves more
+        ≡ joined_leaves (take place leaves)
+        ++ (entries.now ++ joined_leaves (drop (place + 1) leaves)))) }
     ensures balance { OnOk result (KeepsBalance (stand pages.now work.old)
         (stand pages.now work.new) index.old.pages index.new.pages) }
     ensures answer { AnswersChange result

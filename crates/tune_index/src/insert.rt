@@ -6,12 +6,12 @@ ghost use Rattle.tune_pages.specs.Frame.{InUse, TradesPages};
 ghost use Rattle.tune_pages.specs.Kept.{HonestAt};
 ghost use Rattle.tune_pages.specs.PageLooks.{LooksAt};
 ghost use Rattle.tune_pages.specs.Work.{stand, Fits};
-ghost use Rattle.index_keys.specs.Entries.{AllFit, Entry, FitsLeaf, IsRising, inserted};
+ghost use Rattle.index_keys.specs.Entries.{AllFit, Entry, FitsLeaf, IsRising, entry_inserted};
 ghost use Rattle.index_keys.specs.Entries.{inserted_all, rank, removed};
 ghost use Rattle.tune_index.specs.IndexAnswers.{AnswersChange, AnswersEdit};
 ghost use Rattle.tune_index.specs.Indexes.{AllLeaves, HasPages, IsIndex, KeepsBalance, KeepsList};
 ghost use Rattle.tune_index.specs.Indexes.{entries_of};
-ghost use Rattle.tune_index.specs.Inside.LeafLists.{HasLeaves, joined};
+ghost use Rattle.tune_index.specs.Inside.LeafLists.{HasLeaves, joined_leaves};
 ghost use Rattle.tune_index.specs.Inside.EntryPlaces.{AllBelow, BelongsTo};
 ghost use Rattle.tune_index.specs.Leaves.{IsLeaf, capacity, leaf_in, slice_entry};
 
@@ -79,8 +79,8 @@ fn spread_in_leaf<D: Disk, const W: usize>(
         → IsRising leaf → (leaves : List (List Entry))
         → HasLeaves W (stand pages.now work.old) index.old leaves → (more : List (List Entry))
         × HasLeaves W (stand pages.now work.new) index.new more
-        × (joined more ≡ joined (take place leaves)
-        ++ (inserted_all part.now leaf ++ joined (drop (place + 1) leaves)))) }
+        × (joined_leaves more ≡ joined_leaves (take place leaves)
+        ++ (inserted_all part.now leaf ++ joined_leaves (drop (place + 1) leaves)))) }
     ensures balance { OnOk result (KeepsBalance (stand pages.now work.old)
         (stand pages.now work.new) index.old.pages index.new.pages) }
     ensures answer { let leaf = leaf_in W image.now.bytes in
@@ -153,8 +153,8 @@ fn insert_in_leaf<D: Disk, const W: usize>(
         → IsRising leaf → (leaves : List (List Entry))
         → HasLeaves W (stand pages.now work.old) index.old leaves → (more : List (List Entry))
         × HasLeaves W (stand pages.now work.new) index.new more
-        × (joined more ≡ joined (take place leaves)
-        ++ (inserted_all part.now leaf ++ joined (drop (place + 1) leaves)))) }
+        × (joined_leaves more ≡ joined_leaves (take place leaves)
+        ++ (inserted_all part.now leaf ++ joined_leaves (drop (place + 1) leaves)))) }
     ensures balance { OnOk result (KeepsBalance (stand pages.now work.old)
         (stand pages.now work.new) index.old.pages index.new.pages) }
     ensures answer { let leaf = leaf_in W image.old.bytes in
@@ -205,9 +205,9 @@ fn insert_part<D: Disk, const W: usize>(
         → HasLeaves W (stand pages.old work.old) index.old leaves
         → IsRising (slice_index_or leaves place []) → (more : List (List Entry))
         × HasLeaves W (stand pages.new work.new) index.new more
-        × (joined more ≡ joined (take place leaves)
+        × (joined_leaves more ≡ joined_leaves (take place leaves)
         ++ (inserted_all part.now (slice_index_or leaves place [])
-        ++ joined (drop (place + 1) leaves)))) }
+        ++ joined_leaves (drop (place + 1) leaves)))) }
     ensures balance { OnOk result (KeepsBalance (stand pages.old work.old)
         (stand pages.new work.new) index.old.pages index.new.pages) }
     ensures looks { LooksAt D.honest D.failures D.state result pages.old pages.new }
@@ -473,14 +473,14 @@ impl<const W: usize> Index<W> {
         ensures entries { OnOk result (HonestAt D.honest pages.new.disk
             → IsIndex W (stand pages.new work.new) self.new
             × (entries_of W (stand pages.new work.new) self.new.pages
-            ≡ inserted (key.entry, value)
+            ≡ entry_inserted (key.entry, value)
             (entries_of W (stand pages.old work.old) self.old.pages))) }
         ensures balance { OnOk result (KeepsBalance (stand pages.old work.old)
             (stand pages.new work.new) self.old.pages self.new.pages) }
         ensures looks { LooksAt D.honest D.failures D.state result pages.old pages.new }
         ensures answer { AnswersEdit result pages.new.closed (HonestAt D.honest pages.new.disk
             → free_pages (stand pages.old work.old).used + length self.old.pages
-            < length (inserted (key.entry, value)
+            < length (entry_inserted (key.entry, value)
             (entries_of W (stand pages.old work.old) self.old.pages))) }
     {
         let mut run = Vec::new(alloc);
@@ -571,9 +571,9 @@ fn remove_at<D: Disk, const W: usize>(
         → HasLeaves W (stand pages.old work.old) index.old leaves
         → IsRising (slice_index_or leaves place []) → (more : List (List Entry))
         × HasLeaves W (stand pages.new work.new) index.new more
-        × (joined more ≡ joined (take place leaves)
+        × (joined_leaves more ≡ joined_leaves (take place leaves)
         ++ (removed (key.now, value) (slice_index_or leaves place [])
-        ++ joined (drop (place + 1) leaves)))) }
+        ++ joined_leaves (drop (place + 1) leaves)))) }
     ensures balance { OnOk result (KeepsBalance (stand pages.old work.old)
         (stand pages.new work.new) index.old.pages index.new.pages) }
     ensures looks { LooksAt D.honest D.failures D.state result pages.old pages.new }

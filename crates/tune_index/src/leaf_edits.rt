@@ -2,9 +2,10 @@
 ghost use Rattle.std.specs.Prelude.{◌≡◌, ℕ, ◌+◌, ◌-◌, ◌*◌, ◌≤◌, ◌<◌, ◌++◌, List, [], length, drop};
 ghost use Rattle.std.specs.Prelude.{take, IsTrue, false, true};
 ghost use Rattle.std.specs.List.{HoldsAt, insert, remove};
-ghost use Rattle.index_keys.specs.Entries.{FitsLeaf, IsRising, inserted, rank, removed};
+ghost use Rattle.index_keys.specs.Entries.{FitsLeaf, IsRising, entry_inserted, rank, removed};
 ghost use Rattle.tune_index.specs.Inside.EntryPlaces.{IsPlace};
-ghost use Rattle.tune_index.specs.Leaves.{capacity, count_bytes, entries_in, entry_bytes, leaf_in};
+ghost use Rattle.tune_index.specs.Leaves.{capacity, count_bytes, entries_in, leaf_entry_bytes};
+ghost use Rattle.tune_index.specs.Leaves.{leaf_in};
 ghost use Rattle.tune_index.specs.Leaves.{IsLeaf, slice_entry};
 
 use crate::leaf::{capacity_of, entry_of, first_from, leaf_length, page_bytes};
@@ -43,7 +44,7 @@ fn write_entry<const W: usize>(bytes: &mut [u8], place: usize, key: &IndexKey<W>
     requires width { W ≤ 4090 }
     requires room { (place + 1) * (W + 4) ≤ length bytes.old }
     ensures bytes { bytes.new ≡ take (place * (W + 4)) bytes.old
-        ++ (entry_bytes W (key.now, value) ++ drop ((place + 1) * (W + 4)) bytes.old) }
+        ++ (leaf_entry_bytes W (key.now, value) ++ drop ((place + 1) * (W + 4)) bytes.old) }
     ensures fits { FitsLeaf W (key.now, value) }
 {
     let from = place * (W + 4);
@@ -181,7 +182,7 @@ pub(crate) fn insert_in_image<const W: usize>(
     requires form { IsLeaf W image.old.bytes }
     ensures form { IsLeaf W image.new.bytes }
     ensures entries { result ≡ true → IsRising (leaf_in W image.old.bytes)
-        → leaf_in W image.new.bytes ≡ inserted (key.now, value) (leaf_in W image.old.bytes) }
+        → leaf_in W image.new.bytes ≡ entry_inserted (key.now, value) (leaf_in W image.old.bytes) }
     ensures full { result ≡ false → image.new.bytes ≡ image.old.bytes }
 {
     let count = leaf_length::<W>(image);

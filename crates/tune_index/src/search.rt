@@ -1,7 +1,7 @@
 // Where an entry is in a list, and lists with an entry more or less.
 ghost use Rattle.std.specs.Prelude.{◌≡◌, ◌≤◌, ◌+◌, ◌<◌, length, OnOk, IsTrue, false};
 ghost use Rattle.std.specs.List.{HoldsAt};
-ghost use Rattle.index_keys.specs.Entries.{IsRising, inserted, rank, removed};
+ghost use Rattle.index_keys.specs.Entries.{IsRising, entry_inserted, rank, removed};
 ghost use Rattle.tune_index.specs.Inside.EntryPlaces.{AllBelow, IsPlace};
 
 use crate::leaf::Leaf;
@@ -77,7 +77,7 @@ pub(crate) fn insert_in<const W: usize>(
     value: u32,
 ) -> Result<(), AllocError>
     ensures ok { IsRising entries.old.items
-        → OnOk result (entries.new.items ≡ inserted (key.entry, value) entries.old.items) }
+        → OnOk result (entries.new.items ≡ entry_inserted (key.entry, value) entries.old.items) }
     ensures some { OnOk result (1 ≤ length entries.new.items) }
     ensures within { OnOk result (length entries.new.items ≤ length entries.old.items + 1) }
 {

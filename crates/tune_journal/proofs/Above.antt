@@ -13,7 +13,7 @@ use Rattle.tune_journal.specs.Image.{StandsFor, gate_of}
 use Rattle.tune_journal.specs.Inside.ChangeOrder.{AreAbove, PagesRise}
 use Rattle.tune_journal.specs.FileOffsets.{gate_open}
 use Rattle.tune_journal.specs.Moments.{LeftOrSame}
-use Rattle.tune_journal.specs.Pages.{page_at, changed, pages_after}
+use Rattle.tune_journal.specs.Pages.{page_at, changed_pages, pages_after}
 use Rattle.tune_journal.proofs.ChangeLists.{rises_from_increasing, image_of_none}
 use Rattle.tune_journal.proofs.Changed.{length-changed}
 
@@ -46,7 +46,8 @@ unnamed p q image changes none = elim (cases_eq p q) [
   | inr other ↦ (other, grind (arith, nat_tests, other, none))
 ]
 
-pub page_kept : (pages : List (List ℕ)) (changes : List (ℕ × List ℕ)) (p : ℕ) → image_of p changes ≡ None → page_at (changed pages changes) p ≡ page_at pages p
+pub page_kept : (pages : List (List ℕ)) (changes : List (ℕ × List ℕ)) (p : ℕ) → image_of p changes ≡ None → page_at (changed_pages pages changes) p
+    ≡ page_at pages p
 page_kept pages [] p none = refl
 page_kept pages ((q, image) ∷ changes) p none =
     let here = unnamed p q image changes none in
@@ -65,7 +66,7 @@ page_kept_after pages m changes p lt none =
 
 -- a page that the changes name has its image among these pages with them
 pub changed_at : (pages : List (List ℕ)) (changes : List (ℕ × List ℕ)) (p : ℕ) (image : List ℕ) → PagesRise changes → p < length pages
-    → image_of p changes ≡ Some image → page_at (changed pages changes) p ≡ image
+    → image_of p changes ≡ Some image → page_at (changed_pages pages changes) p ≡ image
 changed_at pages [] p image rises lt some = absurd (let e = some in cc)
 changed_at pages ((q, i) ∷ rest) p image rises lt some = elim (cases_eq p q) [
   | inl same ↦ (let found : image_of p ((q, i) ∷ rest) ≡ Some i = grind (arith, nat_tests, same) in

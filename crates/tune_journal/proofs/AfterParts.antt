@@ -10,11 +10,12 @@ use Rattle.tune_disk.specs.Inside.Spares.{Agrees}
 use Rattle.tune_journal.specs.ChangeList.{change_at}
 use Rattle.tune_journal.specs.Image.{window, number, entry_offset, pages_of, entries, count_of, new_count_of, log_of, gate_of, IsLog}
 use Rattle.tune_journal.specs.Image.{HasLog, entry_count_of}
-use Rattle.tune_journal.specs.Inside.Phases.{KeepsBoth, IsNoLog, IsOutside, HoldsEntries, HoldsDescriptor, Settles}
+use Rattle.tune_journal.specs.Inside.Phases.{KeepsBoth, IsNoLog, IsOutside, HoldsLogEntries, HoldsDescriptor, Settles}
 use Rattle.tune_journal.specs.Inside.Rest.{IsAtRest, IsLogged, IsOpened, IsApplied}
-use Rattle.tune_journal.specs.FileOffsets.{block_bytes, gate_offset, gate_open, gate_closed, descriptor_offset, entry_count_offset, count_offset, entry_bytes}
+use Rattle.tune_journal.specs.FileOffsets.{block_bytes, gate_offset, gate_open, gate_closed, descriptor_offset, entry_count_offset, count_offset}
+use Rattle.tune_journal.specs.FileOffsets.{log_entry_bytes}
 use Rattle.tune_journal.specs.FileOffsets.{most_pages}
-use Rattle.tune_journal.specs.Pages.{changed, NamesAll}
+use Rattle.tune_journal.specs.Pages.{changed_pages, NamesAll}
 use Rattle.tune_journal.proofs.Windows.{front_window, back_window}
 use Rattle.tune_journal.proofs.Changed.{Unnamed, changed_same, changed-changed}
 use Rattle.tune_journal.proofs.CallRuns.{settles_settled, settles_agrees}
@@ -26,7 +27,7 @@ use Rattle.tune_journal.proofs.Standing.{applying_headed, applying_gate, applyin
 
 -- what stands in the log is what was written there
 pub entries_written : (m : ℕ) (log : List (ℕ × List ℕ)) (f : List ℕ) → m ≤ most_pages → All (λ e. e.0 < m) log
-    → HoldsEntries (entry_offset m 0) log (length log) f → entries m (length log) f ≡ log
+    → HoldsLogEntries (entry_offset m 0) log (length log) f → entries m (length log) f ≡ log
 entries_written m log f most below held =
     same_lists (entries m (length log) f) log (length-entries m (length log) f) (λ i d lt. each i d (omega (arith, length-entries m (length log) f)))
   where
@@ -34,9 +35,9 @@ entries_written m log f most below held =
     each i d lt =
         let h = held i lt in
         let e : ℕ × List ℕ = change_at log i in
-        let at : entry_offset m 0 + entry_bytes * i ≡ entry_offset m i = omega arith in
-        let both : window (entry_offset m i) entry_bytes f ≡ big_bytes 4 e.0 ++ e.1 =
-        subst (λ (a : ℕ). window a entry_bytes f ≡ big_bytes 4 e.0 ++ e.1) at h.0 in
+        let at : entry_offset m 0 + log_entry_bytes * i ≡ entry_offset m i = omega arith in
+        let both : window (entry_offset m i) log_entry_bytes f ≡ big_bytes 4 e.0 ++ e.1 =
+        subst (λ (a : ℕ). window a log_entry_bytes f ≡ big_bytes 4 e.0 ++ e.1) at h.0 in
         let low : e.0 < m = All-get_or (λ (x : ℕ × List ℕ). x.0 < m) log i (0, []) lt below in
         let page : number (entry_offset m i) f ≡ e.0 =
         number_is (entry_offset m i) e.0 f (omega arith) (front_window (entry_offset m i) 4 block_bytes f (big_bytes 4 e.0) e.1 both refl) in
@@ -44,7 +45,7 @@ entries_written m log f most below held =
         entries_at m (length log) i f d lt ∙ (λ t. (page t, image t)) ∙ get_or_default log i (0, []) d lt
 
 module _ (m : ℕ) (log : List (ℕ × List ℕ)) (most : m ≤ most_pages) (is_log : IsLog m log) (new : DiskState)
-    (held : HoldsEntries (entry_offset m 0) log (length log) new.seen) (descriptor : HoldsDescriptor m (length log) new.seen) where
+    (held : HoldsLogEntries (entry_offset m 0) log (length log) new.seen) (descriptor : HoldsDescriptor m (length log) new.seen) where
   logged_count : new_count_of new.seen ≡ m
   logged_count =
       number_is descriptor_offset m new.seen (omega arith)
@@ -89,7 +90,7 @@ module _ (n m : ℕ) (old new : DiskState) (rest : IsAtRest n old) (le : n ≤ m
     pages = agree_count (IsNoLog m) old.seen new.seen agrees n rest.pages;
   }
 
-  pub logged_after : (log : List (ℕ × List ℕ)) → m ≤ most_pages → IsLog m log → HoldsEntries (entry_offset m 0) log (length log) new.seen
+  pub logged_after : (log : List (ℕ × List ℕ)) → m ≤ most_pages → IsLog m log → HoldsLogEntries (entry_offset m 0) log (length log) new.seen
       → HoldsDescriptor m (length log) new.seen → IsLogged n m new
   logged_after log most is_log held descriptor = record {
     rest = logged_rest;
@@ -136,7 +137,7 @@ module _ (n m : ℕ) (old new : DiskState) (logged : IsLogged n m old) (ran : Se
 -- The images.
 pub applied_after : (m : ℕ) (old new : DiskState) → (opened : IsOpened m old) → Settles (KeepsBoth (entries m (entry_count_of old.seen) old.seen)) old new
     → count_of new.seen ≡ m
-    → pages_of m new.seen ≡ changed (pages_of m old.seen) (log_of old.seen) → IsApplied m new
+    → pages_of m new.seen ≡ changed_pages (pages_of m old.seen) (log_of old.seen) → IsApplied m new
 applied_after m old new opened ran count pages =
     let Kept = KeepsBoth (entries m (entry_count_of old.seen) old.seen) in
     let agrees = settles_agrees Kept old new ran in
@@ -153,7 +154,7 @@ applied_after m old new opened ran count pages =
         log = subst (λ (j : ℕ). HasLog m j new.seen) (sym size) (applying_log m old opened new.seen agrees);
       };
       count = count;
-      pages = pages ∙ sym (changed-changed (pages_of m old.seen) (log_of old.seen)) ∙ (λ t. changed (sym pages t) (sym same t));
+      pages = pages ∙ sym (changed-changed (pages_of m old.seen) (log_of old.seen)) ∙ (λ t. changed_pages (sym pages t) (sym same t));
     }
 
 -- The gate again.
@@ -180,7 +181,7 @@ module _ (m : ℕ) (old new : DiskState) (applied : IsApplied m old) (ran : Sett
 
 -- new pages are all named, so what stood at their offsets does not count
 pub after_same : (n m : ℕ) (old new : List ℕ) (log : List (ℕ × List ℕ)) → n ≤ m → NamesAll n m log → pages_of n new ≡ pages_of n old
-    → changed (pages_of m new) log ≡ changed (pages_of n old ++ replicate (m - length (pages_of n old)) []) log
+    → changed_pages (pages_of m new) log ≡ changed_pages (pages_of n old ++ replicate (m - length (pages_of n old)) []) log
 after_same n m old new log le names same = changed_same (pages_of m new) (before ++ replicate (m - length before) []) log sizes each
   where
     before : List (List ℕ)

@@ -11,7 +11,7 @@ use Rattle.tune_disk.proofs.Writes.{written_long}
 use Rattle.tune_journal.specs.Image.{window, number, page_offset, entry_offset, pages_of, entries, gate_of, IsLog, IsHeaded}
 use Rattle.tune_journal.specs.Image.{HasPageCount, HasLog}
 use Rattle.tune_journal.specs.Inside.Phases.{IsOutside}
-use Rattle.tune_journal.specs.FileOffsets.{block_bytes, gate_offset, pages_offset, entry_bytes}
+use Rattle.tune_journal.specs.FileOffsets.{block_bytes, gate_offset, pages_offset, log_entry_bytes}
 use Rattle.tune_journal.proofs.Windows.{same_window, shows_window, length-window}
 
 -- Numbers.
@@ -114,18 +114,18 @@ number_shown at n bytes file size shows long is =
     is ∙ ap (big_number 4) (shows_window at bytes file shows (omega arith) ∙ ap (λ (k : ℕ). window at k file) size)
 
 -- an entry that was read, by its parts
-pub entry_shown : (at : ℕ) (bytes file : List ℕ) → length bytes ≡ entry_bytes → Shows file at bytes → at + entry_bytes ≤ length file
+pub entry_shown : (at : ℕ) (bytes file : List ℕ) → length bytes ≡ log_entry_bytes → Shows file at bytes → at + log_entry_bytes ≤ length file
     → bytes ≡ window at (4 + block_bytes) file
 entry_shown at bytes file size shows long = shows_window at bytes file shows (omega arith) ∙ ap (λ (k : ℕ). window at k file) size
 
-pub number_of_entry : (at n : ℕ) (bytes file : List ℕ) → length bytes ≡ entry_bytes → Shows file at bytes → at + entry_bytes ≤ length file
+pub number_of_entry : (at n : ℕ) (bytes file : List ℕ) → length bytes ≡ log_entry_bytes → Shows file at bytes → at + log_entry_bytes ≤ length file
     → n ≡ big_number 4 (take 4 bytes) → n ≡ number at file
 unfolding number
 number_of_entry at n bytes file size shows long is =
     is ∙ ap (big_number 4)
     (ap (λ (l : List ℕ). take 4 l) (entry_shown at bytes file size shows long) ∙ take-take 4 (4 + block_bytes) (drop at file) (omega arith))
 
-pub image_of_entry : (at : ℕ) (bytes file : List ℕ) → length bytes ≡ entry_bytes → Shows file at bytes → at + entry_bytes ≤ length file
+pub image_of_entry : (at : ℕ) (bytes file : List ℕ) → length bytes ≡ log_entry_bytes → Shows file at bytes → at + log_entry_bytes ≤ length file
     → drop 4 bytes ≡ window (at + 4) block_bytes file
 image_of_entry at bytes file size shows long =
     ap (λ (l : List ℕ). drop 4 l) (entry_shown at bytes file size shows long) ∙ drop-take 4 block_bytes (drop at file)

@@ -6,7 +6,7 @@ use Rattle.tune_journal.specs.Image.{StandsFor, log_of, entries, pages_of, entry
 use Rattle.tune_journal.specs.Inside.Looking.{HasEntries}
 use Rattle.tune_journal.specs.Inside.Phases.{KeepsBoth, WritesAndSyncs, Settles}
 use Rattle.tune_journal.specs.Inside.Rest.{IsOpened, IsApplied}
-use Rattle.tune_journal.specs.Pages.{changed}
+use Rattle.tune_journal.specs.Pages.{changed_pages}
 use Rattle.tune_journal.proofs.CallRuns.{run_since}
 use Rattle.tune_journal.proofs.AfterParts.{applied_after}
 use Rattle.tune_journal.proofs.Agreeing.{length-entries}
@@ -21,18 +21,18 @@ module _ (m : ℕ) (old new : DiskState) (log : List (ℕ × List ℕ)) (opened 
   same = is ∙ log_same m old.seen opened.new_count
 
   pub applying_since : {T E : Type 0} (r : Result T E) → WritesAndSyncs (KeepsBoth log) r old new
-      → SinceThen old new (StandsFor (changed (pages_of m old.seen) (log_of old.seen)))
+      → SinceThen old new (StandsFor (changed_pages (pages_of m old.seen) (log_of old.seen)))
   applying_since r ran =
-      run_since (StandsFor (changed (pages_of m old.seen) (log_of old.seen))) (KeepsBoth behind) r old new opened.settled
+      run_since (StandsFor (changed_pages (pages_of m old.seen) (log_of old.seen))) (KeepsBoth behind) r old new opened.settled
       (subst (λ (l : List (ℕ × List ℕ)). WritesAndSyncs (KeepsBoth l) r old new) same ran)
-      (λ file agrees. subst (λ (l : List (ℕ × List ℕ)). StandsFor (changed (pages_of m old.seen) l) file)
+      (λ file agrees. subst (λ (l : List (ℕ × List ℕ)). StandsFor (changed_pages (pages_of m old.seen) l) file)
       (sym (log_same m old.seen opened.new_count)) (stands_applying m old opened file agrees))
 
   pub applying_ends : Settles (KeepsBoth log) old new → count_of new.seen ≡ m
-      → pages_of m new.seen ≡ changed (pages_of m old.seen) log → IsApplied m new
+      → pages_of m new.seen ≡ changed_pages (pages_of m old.seen) log → IsApplied m new
   applying_ends ran count pages =
       applied_after m old new opened (subst (λ (l : List (ℕ × List ℕ)). Settles (KeepsBoth l) old new) same ran) count
-      (pages ∙ ap (changed (pages_of m old.seen)) is)
+      (pages ∙ ap (changed_pages (pages_of m old.seen)) is)
 
 -- A log of k entries is the one that stands behind m pages.
 module _ (m k : ℕ) (s : DiskState) (opened : IsOpened m s) (size : length (log_of s.seen) ≡ k) where

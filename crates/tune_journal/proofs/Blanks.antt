@@ -4,7 +4,7 @@ use Rattle.std.proofs.Common.{arith, append_assoc}
 use Rattle.std.proofs.lemmas.List.{append-nil, take_all, drop-drop, length-drop, length-replicate, drop_at, drop_all, drop-replicate}
 use Rattle.std.proofs.lemmas.List.{replicate-append-replicate}
 use borrow.Rule.Slice.PartMut.{put_mid, post_of}
-use Rattle.tune_journal.specs.ChangeList.{padded}
+use Rattle.tune_journal.specs.ChangeList.{padded_image}
 use Rattle.tune_journal.specs.FileOffsets.{block_bytes}
 use Rattle.tune_journal.specs.Inside.ShortImages.{IsBlankFrom}
 
@@ -55,7 +55,7 @@ zeros_behind n image is =
 -- and both
 pub both_padded : (head rest image front behind : List ℕ) → length head + length rest ≤ block_bytes → length image ≡ block_bytes → front ≡ head
     → behind ≡ rest ++ replicate (length (take (length image - length head) (drop (length head) image)) - length rest) 0
-    → front ++ drop (length head) (put_mid (length head) (length image - length head) image behind) ≡ padded (head ++ rest)
+    → front ++ drop (length head) (put_mid (length head) (length image - length head) image behind) ≡ padded_image (head ++ rest)
 both_padded head rest image front behind few long first second =
     let n : ℕ = length head in
     let zeros : List ℕ = replicate (4096 - length (head ++ rest)) 0 in

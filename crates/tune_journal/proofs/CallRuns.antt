@@ -1,7 +1,7 @@
 -- Runs of writes that end with a sync.
 use Rattle.std.proofs.Common.{◌≡◌, ℕ, List, [], ◌∷◌, length, get_or, sym, ◌∙◌, ap, subst, arith, Result, Ok, Err, OnOk}
 use Rattle.tune_disk.specs.Disk.{DiskState, Written, Writes, Syncs, settled}
-use Rattle.tune_disk.specs.Inside.Spares.{Spares, Agrees}
+use Rattle.tune_disk.specs.Inside.Spares.{SparesOffsets, Agrees}
 use Rattle.tune_disk.specs.Stops.{SinceThen}
 use Rattle.tune_disk.proofs.Moments.{since_now, spares_then, spares_fewer, spares_write, spares_since, since_then, settled_leaves}
 use Rattle.tune_journal.specs.Inside.Phases.{Settles, WritesAndSyncs, IsOutside}
@@ -12,7 +12,7 @@ pub writes_fewer : {T E : Type 0} (Kept Fewer : ℕ → Type 0) (r : Result T E)
 writes_fewer Kept Fewer (Ok t) a b f w = record { mid = w.mid; spares = spares_fewer Kept Fewer a w.mid f w.spares; seen = w.seen; goes = w.goes }
 writes_fewer Kept Fewer (Err e) a b f w = spares_fewer Kept Fewer a b f w
 
-pub writes_after : {T E : Type 0} (Kept : ℕ → Type 0) (r : Result T E) (a b c : DiskState) → Spares Kept a b → WritesAndSyncs Kept r b c
+pub writes_after : {T E : Type 0} (Kept : ℕ → Type 0) (r : Result T E) (a b c : DiskState) → SparesOffsets Kept a b → WritesAndSyncs Kept r b c
     → WritesAndSyncs Kept r a c
 writes_after Kept (Ok t) a b c s w = record { mid = w.mid; spares = spares_then Kept a b w.mid s w.spares; seen = w.seen; goes = w.goes }
 writes_after Kept (Err e) a b c s w = spares_then Kept a b c s w
@@ -29,7 +29,7 @@ write_then_sync {T' = T'} {E' = E'} at bytes (Ok u) (Ok t) v a b c is w s =
       goes = s.1;
     }
 write_then_sync {T' = T'} {E' = E'} at bytes (Ok u) (Err e) v a b c is w s =
-    subst (λ (x : DiskState). Spares (IsOutside at (length bytes)) a x) (sym s)
+    subst (λ (x : DiskState). SparesOffsets (IsOutside at (length bytes)) a x) (sym s)
     (spares_write (IsOutside at (length bytes)) at bytes (let r : Result T' E' = Ok u in r) a b w (λ i out. out))
 write_then_sync {T' = T'} {E' = E'} at bytes (Err e) r v a b c is w s = cc
 

@@ -13,7 +13,7 @@ use Rattle.tune_journal.specs.declared.changes.ChangedPage.{ChangedPage}
 use Rattle.tune_journal.specs.declared.changes.PageImage.{PageImage}
 use Rattle.tune_journal.specs.ChangeList.{with_change, image_of, change_at, changed_page}
 use Rattle.tune_journal.specs.Inside.ChangeOrder.{IsChangeList, AreBelow, AreAbove, PagesRise, FoundAt, MissingAt}
-use Rattle.tune_journal.specs.Inside.ListedChanges.{image_in, change_in, listed}
+use Rattle.tune_journal.specs.Inside.ListedChanges.{image_in, change_in, listed_changes}
 use Rattle.tune_journal.specs.FileOffsets.{block_bytes}
 
 abbrev pub Change : Type 0
@@ -174,22 +174,22 @@ pub rises_from_increasing : (l : List Change) → IsStrictlyIncreasing (map (λ 
 rises_from_increasing l rising = rises_from_sorted l (sorted_from_strictly_increasing (map (λ c. c.0) l) rising)
 
 -- What a value holds, at a place.
-pub in_listed : (s : List ℕ) (w : List PageImage) (items : List ChangedPage) (at : ℕ) → at < length (listed s w items) → at < length items
+pub in_listed : (s : List ℕ) (w : List PageImage) (items : List ChangedPage) (at : ℕ) → at < length (listed_changes s w items) → at < length items
 in_listed s w items at lt = omega (arith, length-map items (change_in s w))
 
-pub change_there : (s : List ℕ) (w : List PageImage) (items : List ChangedPage) (at : ℕ) (x : ChangedPage) → at < length (listed s w items)
+pub change_there : (s : List ℕ) (w : List PageImage) (items : List ChangedPage) (at : ℕ) (x : ChangedPage) → at < length (listed_changes s w items)
     → x ≡ get_or items at x
-    → change_at (listed s w items) at ≡ change_in s w x
+    → change_at (listed_changes s w items) at ≡ change_in s w x
 change_there s w items at x lt is = get_or-map (change_in s w) items at x (0, []) (in_listed s w items at lt) ∙ ap (change_in s w) (sym is)
 
 pub listed_inserted : (s : List ℕ) (w : List PageImage) (at : ℕ) (items : List ChangedPage) (new : ChangedPage)
-    → MissingAt new.page at (listed s w items)
-    → listed s w (insert items at new) ≡ with_change new.page (image_in s w new.kept) (listed s w items)
+    → MissingAt new.page at (listed_changes s w items)
+    → listed_changes s w (insert items at new) ≡ with_change new.page (image_in s w new.kept) (listed_changes s w items)
 listed_inserted s w at items new missing =
     map-append (change_in s w) (take at items) (new ∷ drop at items)
-    ∙ ap (λ (l : List Change). l ++ change_in s w new ∷ listed s w (drop at items)) (sym (take-map (change_in s w) at items))
-    ∙ ap (λ (l : List Change). take at (listed s w items) ++ change_in s w new ∷ l) (sym (drop-map (change_in s w) at items))
-    ∙ sym (with_change_missing new.page at (image_in s w new.kept) (listed s w items) missing)
+    ∙ ap (λ (l : List Change). l ++ change_in s w new ∷ listed_changes s w (drop at items)) (sym (take-map (change_in s w) at items))
+    ∙ ap (λ (l : List Change). take at (listed_changes s w items) ++ change_in s w new ∷ l) (sym (drop-map (change_in s w) at items))
+    ∙ sym (with_change_missing new.page at (image_in s w new.kept) (listed_changes s w items) missing)
 
 -- where a change is inserted its page is found
 pub found_inserted : (page at : ℕ) (image : List ℕ) (l : List Change) → MissingAt page at l → FoundAt page at (insert l at (page, image))

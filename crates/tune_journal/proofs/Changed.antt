@@ -3,7 +3,7 @@ use Rattle.std.proofs.Common.{◌≡◌, ◌≢◌, inl, inr, ℕ, zero, suc, �
 use Rattle.std.proofs.lemmas.List.{same_lists, get_or-set_same, get_or-set_other, length-set}
 use Rattle.std.proofs.lemmas.Bool.{cases_eq}
 use Rattle.tune_journal.specs.ChangeList.{change_at}
-use Rattle.tune_journal.specs.Pages.{changed}
+use Rattle.tune_journal.specs.Pages.{changed_pages}
 
 -- no entry names this page
 abbrev pub Unnamed : List (ℕ × List ℕ) → ℕ → Type 0
@@ -13,18 +13,18 @@ unnamed_more : (e : ℕ × List ℕ) (log : List (ℕ × List ℕ)) (p : ℕ) �
 unnamed_more e log p ne rest zero lt = ne
 unnamed_more e log p ne rest (suc k) lt = rest k (omega arith)
 
-pub length-changed : (xs : List (List ℕ)) (log : List (ℕ × List ℕ)) → length (changed xs log) ≡ length xs
+pub length-changed : (xs : List (List ℕ)) (log : List (ℕ × List ℕ)) → length (changed_pages xs log) ≡ length xs
 length-changed xs [] = refl
 length-changed xs (e ∷ log) = length-changed (set xs e.0 e.1) log ∙ length-set xs e.0 e.1
 
-pub changed_unnamed : (xs : List (List ℕ)) (log : List (ℕ × List ℕ)) (p : ℕ) (d : List ℕ) → Unnamed log p → get_or (changed xs log) p d ≡ get_or xs p d
+pub changed_unnamed : (xs : List (List ℕ)) (log : List (ℕ × List ℕ)) (p : ℕ) (d : List ℕ) → Unnamed log p → get_or (changed_pages xs log) p d ≡ get_or xs p d
 changed_unnamed xs [] p d un = refl
 changed_unnamed xs (e ∷ log) p d un =
     changed_unnamed (set xs e.0 e.1) log p d (λ k lt. un (suc k) (omega arith)) ∙ get_or-set_other xs e.0 p e.1 d (λ is. un 0 (omega arith) (sym is))
 
 -- pages that a log does not name decide what it makes of them
 pub changed_same : (xs ys : List (List ℕ)) (log : List (ℕ × List ℕ)) → length xs ≡ length ys
-    → ((p : ℕ) (d : List ℕ) → p < length xs → Unnamed log p → get_or xs p d ≡ get_or ys p d) → changed xs log ≡ changed ys log
+    → ((p : ℕ) (d : List ℕ) → p < length xs → Unnamed log p → get_or xs p d ≡ get_or ys p d) → changed_pages xs log ≡ changed_pages ys log
 changed_same xs ys [] size same = same_lists xs ys size (λ p d lt. same p d lt (λ k none. absurd (omega arith)))
 changed_same xs ys (e ∷ log) size same = changed_same (set xs e.0 e.1) (set ys e.0 e.1) log (length-set xs e.0 e.1 ∙ size ∙ sym (length-set ys e.0 e.1)) each
   where
@@ -38,5 +38,5 @@ changed_same xs ys (e ∷ log) size same = changed_same (set xs e.0 e.1) (set ys
     ]
 
 -- A log whose images stand in their pages already changes nothing.
-pub changed-changed : (xs : List (List ℕ)) (log : List (ℕ × List ℕ)) → changed (changed xs log) log ≡ changed xs log
-changed-changed xs log = changed_same (changed xs log) xs log (length-changed xs log) (λ p d lt un. changed_unnamed xs log p d un)
+pub changed-changed : (xs : List (List ℕ)) (log : List (ℕ × List ℕ)) → changed_pages (changed_pages xs log) log ≡ changed_pages xs log
+changed-changed xs log = changed_same (changed_pages xs log) xs log (length-changed xs log) (λ p d lt un. changed_unnamed xs log p d un)

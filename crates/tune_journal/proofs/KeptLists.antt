@@ -8,9 +8,9 @@ use Rattle.tune_journal.specs.declared.changes.ChangedPage.{ChangedPage}
 use Rattle.tune_journal.specs.declared.changes.Kept.{Kept}
 use Rattle.tune_journal.specs.declared.changes.Kept.TheVariants.{Start, Whole}
 use Rattle.tune_journal.specs.declared.changes.PageImage.{PageImage}
-use Rattle.tune_journal.specs.ChangeList.{with_change, padded}
+use Rattle.tune_journal.specs.ChangeList.{with_change, padded_image}
 use Rattle.tune_journal.specs.Inside.ChangeOrder.{IsChangeList, AreAbove, PagesRise, FoundAt, MissingAt}
-use Rattle.tune_journal.specs.Inside.ListedChanges.{wholes, image_in, change_in, listed, HasPlace, HavePlaces, start_in, start_count, HoldsChanges}
+use Rattle.tune_journal.specs.Inside.ListedChanges.{wholes, image_in, change_in, listed_changes, HasPlace, HavePlaces, start_in, start_count, HoldsChanges}
 use Rattle.tune_journal.specs.FileOffsets.{block_bytes}
 use Rattle.tune_journal.proofs.ChangeLists.{Change, with_change_found, with_change_missing, in_listed, change_there, listed_inserted}
 use Rattle.tune_journal.proofs.ChangeLists.{found_inserted, keeps_order}
@@ -35,10 +35,10 @@ module _ (s : List ℕ) where
 
   pub listed_more : (pages : List ℕ) (w : List PageImage) (i : PageImage) (items : List ChangedPage) → length pages ≡ length w
       → HavePlaces (length s) pages items
-      → listed s (w ++ i ∷ []) items ≡ listed s w items
+      → listed_changes s (w ++ i ∷ []) items ≡ listed_changes s w items
   listed_more pages w i [] marks have = refl
   listed_more pages w i (c ∷ cs) marks have =
-      ap (λ (b : List ℕ). (c.page, b) ∷ listed s (w ++ i ∷ []) cs) (image_more pages w i c.page c.kept marks have.0)
+      ap (λ (b : List ℕ). (c.page, b) ∷ listed_changes s (w ++ i ∷ []) cs) (image_more pages w i c.page c.kept marks have.0)
       ∙ ap (λ (l : List Change). change_in s w c ∷ l) (listed_more pages w i cs marks have.1)
 
   pub image_last : (w : List PageImage) (i : PageImage) → image_in s (w ++ i ∷ []) (Whole (length w)) ≡ i.bytes
@@ -64,10 +64,10 @@ module _ (s : List ℕ) where
       ∙ get_or-set_other (wholes w) k place i.bytes [] (λ same. ne (sym has.1 ∙ ap (λ (n : ℕ). get_or pages n 0) same ∙ its))
 
   listed_apart : (pages : List ℕ) (w : List PageImage) (k : ℕ) (i : PageImage) (page : ℕ) (items : List ChangedPage) → HavePlaces (length s) pages items
-      → get_or pages k 0 ≡ page → AreAbove page (listed s w items) → listed s (set w k i) items ≡ listed s w items
+      → get_or pages k 0 ≡ page → AreAbove page (listed_changes s w items) → listed_changes s (set w k i) items ≡ listed_changes s w items
   listed_apart pages w k i page [] have its above = refl
   listed_apart pages w k i page (c ∷ cs) have its above =
-      ap (λ (b : List ℕ). (c.page, b) ∷ listed s (set w k i) cs)
+      ap (λ (b : List ℕ). (c.page, b) ∷ listed_changes s (set w k i) cs)
       (image_apart pages w k i page c.page c.kept have.0 its (λ is. absurd (omega (arith, above.0, is))))
       ∙ ap (λ (l : List Change). change_in s w c ∷ l) (listed_apart pages w k i page cs have.1 its above.1)
 
@@ -77,19 +77,20 @@ module _ (s : List ℕ) where
       ∙ get_or-set_same (wholes w) k i.bytes [] (omega (arith, lt, length-map w (λ (i : PageImage). i.bytes)))
 
   pub listed_set : (pages : List ℕ) (w : List PageImage) (k : ℕ) (i : PageImage) (page at : ℕ) (items : List ChangedPage) (x : ChangedPage)
-      → HavePlaces (length s) pages items → get_or pages k 0 ≡ page → k < length w → PagesRise (listed s w items) → FoundAt page at (listed s w items)
+      → HavePlaces (length s) pages items → get_or pages k 0 ≡ page → k < length w → PagesRise (listed_changes s w items)
+      → FoundAt page at (listed_changes s w items)
       → x ≡ get_or items at x
       → x.kept ≡ Whole k
-      → listed s (set w k i) items ≡ set (listed s w items) at (page, i.bytes)
+      → listed_changes s (set w k i) items ≡ set (listed_changes s w items) at (page, i.bytes)
   listed_set pages w k i page at [] x have its lt rises found is whole = absurd (omega (arith, found.in_range))
   listed_set pages w k i page zero (c ∷ cs) x have its lt rises found is whole =
-      ap (λ (p : ℕ). (p, image_in s (set w k i) c.kept) ∷ listed s (set w k i) cs) found.is_its
-      ∙ ap (λ (b : List ℕ). (page, b) ∷ listed s (set w k i) cs) (image_set w k i c.kept lt (ap (λ (c : ChangedPage). c.kept) (sym is) ∙ whole))
+      ap (λ (p : ℕ). (p, image_in s (set w k i) c.kept) ∷ listed_changes s (set w k i) cs) found.is_its
+      ∙ ap (λ (b : List ℕ). (page, b) ∷ listed_changes s (set w k i) cs) (image_set w k i c.kept lt (ap (λ (c : ChangedPage). c.kept) (sym is) ∙ whole))
       ∙ ap (λ (l : List Change). (page, i.bytes) ∷ l)
-      (listed_apart pages w k i page cs have.1 its (subst (λ (p : ℕ). AreAbove p (listed s w cs)) found.is_its rises.0))
+      (listed_apart pages w k i page cs have.1 its (subst (λ (p : ℕ). AreAbove p (listed_changes s w cs)) found.is_its rises.0))
   listed_set pages w k i page (suc at) (c ∷ cs) x have its lt rises found is whole =
-      let rest : FoundAt page at (listed s w cs) = record { in_range = omega (arith, found.in_range); is_its = found.is_its; below = found.below.1 } in
-      ap (λ (b : List ℕ). (c.page, b) ∷ listed s (set w k i) cs)
+      let rest : FoundAt page at (listed_changes s w cs) = record { in_range = omega (arith, found.in_range); is_its = found.is_its; below = found.below.1 } in
+      ap (λ (b : List ℕ). (c.page, b) ∷ listed_changes s (set w k i) cs)
       (image_apart pages w k i page c.page c.kept have.0 its (λ same. absurd (omega (arith, found.below.0, same))))
       ∙ ap (λ (l : List Change). change_in s w c ∷ l) (listed_set pages w k i page at cs x have.1 its lt rises.1 rest is whole)
 
@@ -156,7 +157,7 @@ module _ (s : List ℕ) where
     start_place_in from size within short = subst (HasPlace (length s) kept.pages x.page) short (place_there kept.pages items at x kept.places within is)
 
     -- the same of a place among the changes that contracts see
-    module _ (seen : List Change) (are : listed s w items ≡ seen) (lt : at < length seen) where
+    module _ (seen : List Change) (are : listed_changes s w items ≡ seen) (lt : at < length seen) where
       among : at < length items
       among = in_listed s w items at (omega (arith, ap length are, lt))
 
@@ -167,7 +168,7 @@ module _ (s : List ℕ) where
       start_place_at from size short = start_place_in from size among short
 
     -- it gets another image
-    module _ (page : ℕ) (found : FoundAt page at (listed s w items)) (i : PageImage) (size : length i.bytes ≡ block_bytes) where
+    module _ (page : ℕ) (found : FoundAt page at (listed_changes s w items)) (i : PageImage) (size : length i.bytes ≡ block_bytes) where
       within : at < length items
       within = in_listed s w items at found.in_range
 
@@ -175,17 +176,17 @@ module _ (s : List ℕ) where
       its = sym (ap (λ (c : Change). c.0) (change_there s w items at x found.in_range is)) ∙ found.is_its
 
       -- where it has a whole one
-      pub set_listed : (k : ℕ) → x.kept ≡ Whole k → listed s (set w k i) items ≡ with_change page i.bytes (listed s w items)
+      pub set_listed : (k : ℕ) → x.kept ≡ Whole k → listed_changes s (set w k i) items ≡ with_change page i.bytes (listed_changes s w items)
       set_listed k whole =
           let has : HasPlace (length s) kept.pages x.page (Whole k) =
           subst (HasPlace (length s) kept.pages x.page) whole (place_there kept.pages items at x kept.places within is) in
           listed_set kept.pages w k i page at items x kept.places (has.1 ∙ its) (place_in k within whole) kept.order.rising found is whole
-          ∙ sym (with_change_found page at i.bytes (listed s w items) found)
+          ∙ sym (with_change_found page at i.bytes (listed_changes s w items) found)
 
       pub set_kept : (k : ℕ) → x.kept ≡ Whole k → HoldsChanges s (set w k i) items room
       set_kept k whole = record {
         pages = kept.pages;
-        order = keeps_order page i.bytes (listed s w items) (listed s (set w k i) items) (set_listed k whole) size kept.order;
+        order = keeps_order page i.bytes (listed_changes s w items) (listed_changes s (set w k i) items) (set_listed k whole) size kept.order;
         marks = kept.marks ∙ sym (length-set w k i);
         places = kept.places;
         count = omega (arith, kept.count, length-set w k i);
@@ -200,12 +201,12 @@ module _ (s : List ℕ) where
             ∙ ap (λ (k : Kept). (page, image_in s (w ++ i ∷ []) k)) whole
             ∙ ap (λ (b : List ℕ). (page, b)) (image_last w i)
 
-        pub whole_listed : listed s (w ++ i ∷ []) (set items at new) ≡ with_change page i.bytes (listed s w items)
+        pub whole_listed : listed_changes s (w ++ i ∷ []) (set items at new) ≡ with_change page i.bytes (listed_changes s w items)
         whole_listed =
             map-set (change_in s (w ++ i ∷ [])) items at new
             ∙ ap (λ (l : List Change). set l at (change_in s (w ++ i ∷ []) new)) (listed_more kept.pages w i items kept.marks kept.places)
-            ∙ ap (λ (c : Change). set (listed s w items) at c) new_is
-            ∙ sym (with_change_found page at i.bytes (listed s w items) found)
+            ∙ ap (λ (c : Change). set (listed_changes s w items) at c) new_is
+            ∙ sym (with_change_found page at i.bytes (listed_changes s w items) found)
 
         fewer : start_count (set items at new) + 1 ≡ start_count items
         fewer =
@@ -218,7 +219,7 @@ module _ (s : List ℕ) where
         pub whole_kept : HoldsChanges s (w ++ i ∷ []) (set items at new) room
         whole_kept = record {
           pages = kept.pages ++ page ∷ [];
-          order = keeps_order page i.bytes (listed s w items) (listed s (w ++ i ∷ []) (set items at new)) whole_listed size kept.order;
+          order = keeps_order page i.bytes (listed_changes s w items) (listed_changes s (w ++ i ∷ []) (set items at new)) whole_listed size kept.order;
           marks = omega (arith, kept.marks, length-append kept.pages (page ∷ []), length-append w (i ∷ []));
           places = places_set (kept.pages ++ page ∷ []) items at new (places_more kept.pages page items kept.places) has;
           count = omega (arith, fewer, kept.count, length-append w (i ∷ []), length-set items at new);
@@ -232,24 +233,24 @@ module _ (s : List ℕ) where
 
   -- a change that is added by its first bytes
   module _ (w : List PageImage) (items : List ChangedPage) (room : ℕ) (kept : HoldsChanges s w items room)
-      (page at : ℕ) (missing : MissingAt page at (listed s w items))
+      (page at : ℕ) (missing : MissingAt page at (listed_changes s w items))
       (new : ChangedPage) (same : new.page ≡ page) (image : List ℕ) (holds : image_in s w new.kept ≡ image) where
-    pub added_listed : listed s w (insert items at new) ≡ with_change page image (listed s w items)
+    pub added_listed : listed_changes s w (insert items at new) ≡ with_change page image (listed_changes s w items)
     added_listed =
-        listed_inserted s w at items new (subst (λ (p : ℕ). MissingAt p at (listed s w items)) (sym same) missing)
-        ∙ ap (λ (p : ℕ). with_change p (image_in s w new.kept) (listed s w items)) same
-        ∙ ap (λ (b : List ℕ). with_change page b (listed s w items)) holds
+        listed_inserted s w at items new (subst (λ (p : ℕ). MissingAt p at (listed_changes s w items)) (sym same) missing)
+        ∙ ap (λ (p : ℕ). with_change p (image_in s w new.kept) (listed_changes s w items)) same
+        ∙ ap (λ (b : List ℕ). with_change page b (listed_changes s w items)) holds
 
-    pub added_found : FoundAt page at (listed s w (insert items at new))
+    pub added_found : FoundAt page at (listed_changes s w (insert items at new))
     added_found =
-        subst (FoundAt page at) (sym (added_listed ∙ with_change_missing page at image (listed s w items) missing))
-        (found_inserted page at image (listed s w items) missing)
+        subst (FoundAt page at) (sym (added_listed ∙ with_change_missing page at image (listed_changes s w items) missing))
+        (found_inserted page at image (listed_changes s w items) missing)
 
     pub added_kept : (more : ℕ) → length items < more → start_in new.kept ≡ 1 → HasPlace (length s) kept.pages new.page new.kept → length image ≡ block_bytes
         → HoldsChanges s w (insert items at new) more
     added_kept more fits one has size = record {
       pages = kept.pages;
-      order = keeps_order page image (listed s w items) (listed s w (insert items at new)) added_listed size kept.order;
+      order = keeps_order page image (listed_changes s w items) (listed_changes s w (insert items at new)) added_listed size kept.order;
       marks = kept.marks;
       places = places_inserted kept.pages items at new kept.places has;
       count = omega (arith, kept.count, start_count_inserted items at new, length-inserted items at new, one);
@@ -272,20 +273,20 @@ bytes_further s b from size within =
 
 image_further : (s b : List ℕ) (w : List PageImage) (pages : List ℕ) (page : ℕ) (kept : Kept) → HasPlace (length s) pages page kept
     → image_in (s ++ b) w kept ≡ image_in s w kept
-image_further s b w pages page (Start from size) has = ap padded (bytes_further s b from size has.0)
+image_further s b w pages page (Start from size) has = ap padded_image (bytes_further s b from size has.0)
 image_further s b w pages page (Whole place) has = refl
 
 pub listed_further : (s b : List ℕ) (w : List PageImage) (pages : List ℕ) (items : List ChangedPage) → HavePlaces (length s) pages items
-    → listed (s ++ b) w items ≡ listed s w items
+    → listed_changes (s ++ b) w items ≡ listed_changes s w items
 listed_further s b w pages [] have = refl
 listed_further s b w pages (c ∷ cs) have =
-    ap (λ (i : List ℕ). (c.page, i) ∷ listed (s ++ b) w cs) (image_further s b w pages c.page c.kept have.0)
+    ap (λ (i : List ℕ). (c.page, i) ∷ listed_changes (s ++ b) w cs) (image_further s b w pages c.page c.kept have.0)
     ∙ ap (λ (l : List Change). change_in s w c ∷ l) (listed_further s b w pages cs have.1)
 
-pub image_of_start : (s b : List ℕ) (w : List PageImage) (size : ℕ) → length b ≡ size → image_in (s ++ b) w (Start (length s) size) ≡ padded b
-image_of_start s b w size is = ap padded (ap (λ (l : List ℕ). take size l) (drop_at s b (length s) refl) ∙ take_all size b (omega (arith, is)))
+pub image_of_start : (s b : List ℕ) (w : List PageImage) (size : ℕ) → length b ≡ size → image_in (s ++ b) w (Start (length s) size) ≡ padded_image b
+image_of_start s b w size is = ap padded_image (ap (λ (l : List ℕ). take size l) (drop_at s b (length s) refl) ∙ take_all size b (omega (arith, is)))
 
-pub length-padded : (start : List ℕ) → length start ≤ block_bytes → length (padded start) ≡ block_bytes
+pub length-padded : (start : List ℕ) → length start ≤ block_bytes → length (padded_image start) ≡ block_bytes
 length-padded start few = omega (arith, few, length-append start (replicate (4096 - length start) 0), length-replicate {A = ℕ})
 
 pub kept_further : (s b : List ℕ) (w : List PageImage) (items : List ChangedPage) (room : ℕ) → HoldsChanges s w items room → HoldsChanges (s ++ b) w items room
@@ -300,9 +301,9 @@ kept_further s b w items room kept = record {
 
 -- THE SAME LISTS under other names
 module _ (s t : List ℕ) (w v : List PageImage) (items others : List ChangedPage) (starts : t ≡ s) (wholes : v ≡ w) (same : others ≡ items) where
-  pub listed_same : listed t v others ≡ listed s w items
+  pub listed_same : listed_changes t v others ≡ listed_changes s w items
   listed_same =
-      ap (λ (t : List ℕ). listed t v others) starts ∙ ap (λ (v : List PageImage). listed s v others) wholes ∙ ap (listed s w) same
+      ap (λ (t : List ℕ). listed_changes t v others) starts ∙ ap (λ (v : List PageImage). listed_changes s v others) wholes ∙ ap (listed_changes s w) same
 
   pub kept_same : (room : ℕ) → HoldsChanges s w items room → HoldsChanges t v others room
   kept_same room kept =

@@ -11,26 +11,27 @@ use Rattle.tune_disk.specs.Disk.{Written}
 use Rattle.tune_disk.proofs.Writes.{written_long}
 use Rattle.tune_journal.specs.ChangeList.{change_at}
 use Rattle.tune_journal.specs.Image.{window, pages_of, page_offset}
-use Rattle.tune_journal.specs.Inside.Phases.{HoldsEntries, IsInNoPage, IsNoLog, IsOutside}
-use Rattle.tune_journal.specs.FileOffsets.{block_bytes, descriptor_offset, entry_bytes}
-use Rattle.tune_journal.specs.Pages.{changed}
+use Rattle.tune_journal.specs.Inside.Phases.{HoldsLogEntries, IsInNoPage, IsNoLog, IsOutside}
+use Rattle.tune_journal.specs.FileOffsets.{block_bytes, descriptor_offset, log_entry_bytes}
+use Rattle.tune_journal.specs.Pages.{changed_pages}
 use Rattle.tune_journal.proofs.Windows.{written_window, written_other}
 
 -- one entry more
-pub entries_more : (base i : ℕ) (log : List (ℕ × List ℕ)) (bytes old new : List ℕ) → HoldsEntries base log i old → length bytes ≡ entry_bytes
-    → bytes ≡ big_bytes 4 (change_at log i).0 ++ (change_at log i).1 → Written (base + entry_bytes * i) bytes old new → HoldsEntries base log (i + 1) new
+pub entries_more : (base i : ℕ) (log : List (ℕ × List ℕ)) (bytes old new : List ℕ) → HoldsLogEntries base log i old → length bytes ≡ log_entry_bytes
+    → bytes ≡ big_bytes 4 (change_at log i).0 ++ (change_at log i).1 → Written (base + log_entry_bytes * i) bytes old new → HoldsLogEntries base log (i + 1) new
 entries_more base i log bytes old new held size is w k lt = elim (cases_eq k i) [
   | inl same ↦ (
-    subst (λ (j : ℕ). window (base + entry_bytes * j) entry_bytes new ≡ big_bytes 4 (change_at log j).0 ++ (change_at log j).1) (sym same)
-        (subst (λ (n : ℕ). window (base + entry_bytes * i) n new ≡ big_bytes 4 (change_at log i).0 ++ (change_at log i).1) size
-        (written_window (base + entry_bytes * i) bytes old new (omega arith) w ∙ is)),
-    omega (arith, written_long (base + entry_bytes * i) bytes old new w (omega arith)),
+    subst (λ (j : ℕ). window (base + log_entry_bytes * j) log_entry_bytes new ≡ big_bytes 4 (change_at log j).0 ++ (change_at log j).1) (sym same)
+        (subst (λ (n : ℕ). window (base + log_entry_bytes * i) n new ≡ big_bytes 4 (change_at log i).0 ++ (change_at log i).1) size
+        (written_window (base + log_entry_bytes * i) bytes old new (omega arith) w ∙ is)),
+    omega (arith, written_long (base + log_entry_bytes * i) bytes old new w (omega arith)),
   )
   | inr other ↦ (
       let h = held k (omega arith) in (
-        written_other (base + entry_bytes * i) bytes old new (omega arith) w (base + entry_bytes * k) entry_bytes (omega (arith, h.1)) (inl (omega arith))
+        written_other (base + log_entry_bytes * i) bytes old new (omega arith) w (base + log_entry_bytes * k) log_entry_bytes (omega (arith, h.1))
+            (inl (omega arith))
             ∙ h.0,
-        omega (arith, h.1, written_long (base + entry_bytes * i) bytes old new w (omega arith)),
+        omega (arith, h.1, written_long (base + log_entry_bytes * i) bytes old new w (omega arith)),
       )
       )
 ]
@@ -74,7 +75,8 @@ image_more n page image old new size below long w =
       | inr other ↦ there k d lt other
     ]
 
-pub changed-push : (pages : List (List ℕ)) (log : List (ℕ × List ℕ)) (e : ℕ × List ℕ) → changed pages (log ++ e ∷ []) ≡ set (changed pages log) e.0 e.1
+pub changed-push : (pages : List (List ℕ)) (log : List (ℕ × List ℕ)) (e : ℕ × List ℕ) → changed_pages pages (log ++ e ∷ [])
+    ≡ set (changed_pages pages log) e.0 e.1
 changed-push pages [] e = refl
 changed-push pages (x ∷ log) e = changed-push (set pages x.0 x.1) log e
 
@@ -87,10 +89,10 @@ outside_page (e ∷ log) (suc k) i lt out = outside_page log k i (omega arith) o
 
 -- a write in front of the entries leaves them
 pub entries_kept : (base : ℕ) (log : List (ℕ × List ℕ)) (n at : ℕ) (bytes old new : List ℕ) → 0 < length bytes → at + length bytes ≤ base
-    → HoldsEntries base log n old → Written at bytes old new → HoldsEntries base log n new
+    → HoldsLogEntries base log n old → Written at bytes old new → HoldsLogEntries base log n new
 entries_kept base log n at bytes old new some before held w k lt =
     let h = held k lt in (
-      written_other at bytes old new some w (base + entry_bytes * k) entry_bytes (omega (arith, h.1)) (inr (omega arith))
+      written_other at bytes old new some w (base + log_entry_bytes * k) log_entry_bytes (omega (arith, h.1)) (inr (omega arith))
           ∙ h.0,
       omega (arith, h.1, written_long at bytes old new w some),
     )

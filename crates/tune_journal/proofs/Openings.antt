@@ -9,7 +9,7 @@ use Rattle.tune_journal.specs.Inside.Looking.{HasEntries, Climbs, Sees, IsBounde
 use Rattle.tune_journal.specs.Inside.Rest.{IsAtRest, IsOpened}
 use Rattle.tune_journal.specs.FileOffsets.{gate_open}
 use Rattle.tune_journal.specs.Moments.{KeepsEither, LeftOrSame}
-use Rattle.tune_journal.specs.Pages.{changed}
+use Rattle.tune_journal.specs.Pages.{changed_pages}
 use Rattle.tune_journal.specs.Refusal.{IsSynced, IsUnwritten}
 use Rattle.tune_journal.specs.declared.look.Found.{Found}
 use Rattle.tune_journal.specs.declared.look.Found.TheVariants.{Damaged, Closed, Open}
@@ -103,7 +103,8 @@ open_entries m k found old new is synced sees =
     let seen : Sees (Open m k) old.seen = subst (λ (f : Found). Sees f old.seen) is sees in
     length-entries (new_count_of new.seen) (entry_count_of new.seen) new.seen ∙ ap entry_count_of synced.seen ∙ seen.3
 
-pub open_bounds : (m k : ℕ) (found : Found) (s : DiskState) → found ≡ Open m k → IsBounded found → k ≤ length (changed (pages_of m s.seen) (log_of s.seen))
+pub open_bounds : (m k : ℕ) (found : Found) (s : DiskState) → found ≡ Open m k → IsBounded found → k
+    ≤ length (changed_pages (pages_of m s.seen) (log_of s.seen))
 open_bounds m k found s is bounded =
     let seen : IsBounded (Open m k) = subst IsBounded is bounded in
     omega (arith, seen.2, length-changed (pages_of m s.seen) (log_of s.seen), length-pages_of m s.seen)

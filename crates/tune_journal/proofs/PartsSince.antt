@@ -6,7 +6,7 @@ use Rattle.tune_journal.specs.Image.{StandsFor, StandsForEither, pages_of, log_o
 use Rattle.tune_journal.specs.Inside.Phases.{WritesAndSyncs, IsNoLog, IsOutside}
 use Rattle.tune_journal.specs.Inside.Rest.{IsAtRest, IsLogged, IsApplied}
 use Rattle.tune_journal.specs.FileOffsets.{gate_offset}
-use Rattle.tune_journal.specs.Pages.{changed}
+use Rattle.tune_journal.specs.Pages.{changed_pages}
 use Rattle.tune_journal.proofs.CallRuns.{run_since}
 use Rattle.tune_journal.proofs.Standing.{stands_logging, stands_opening, stands_closing}
 
@@ -17,9 +17,9 @@ logging_since n m old new r rest le ran =
 
 pub opening_since : {T E : Type 0} (n m : ℕ) (old new : DiskState) (r : Result T E) → IsLogged n m old
     → WritesAndSyncs (IsOutside gate_offset 1) r old new
-    → SinceThen old new (StandsForEither (pages_of n old.seen) (changed (pages_of m old.seen) (log_of old.seen)))
+    → SinceThen old new (StandsForEither (pages_of n old.seen) (changed_pages (pages_of m old.seen) (log_of old.seen)))
 opening_since n m old new r logged ran =
-    run_since (StandsForEither (pages_of n old.seen) (changed (pages_of m old.seen) (log_of old.seen))) (IsOutside gate_offset 1) r old new
+    run_since (StandsForEither (pages_of n old.seen) (changed_pages (pages_of m old.seen) (log_of old.seen))) (IsOutside gate_offset 1) r old new
     logged.rest.settled ran (stands_opening n m old logged)
 
 pub closing_since : {T E : Type 0} (m : ℕ) (old new : DiskState) (r : Result T E) → IsApplied m old → WritesAndSyncs (IsOutside gate_offset 1) r old new

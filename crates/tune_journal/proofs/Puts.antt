@@ -8,7 +8,7 @@ use Rattle.std.proofs.lemmas.Bool.Decides.{nat_tests}
 use mathlib.Core.Bool.{false≢true}
 use Rattle.tune_journal.specs.ChangeList.{with_change, image_of, changed_page}
 use Rattle.tune_journal.specs.Inside.ChangeOrder.{AreAbove, PagesRise}
-use Rattle.tune_journal.specs.Pages.{changed, pages_after, NamesAll}
+use Rattle.tune_journal.specs.Pages.{changed_pages, pages_after, NamesAll}
 use Rattle.tune_journal.proofs.ChangeLists.{Change, with_before, with_same, with_after, image_of_none}
 use Rattle.tune_journal.proofs.Changed.{length-changed}
 
@@ -129,22 +129,23 @@ nothing pages = let none : length pages - length pages ≡ 0 = omega arith in ap
 
 -- a page that none of the changes above another names
 changed_above : (n : ℕ) (l : List Change) (x : List (List ℕ)) (p : ℕ) (image : List ℕ) → p ≤ n → AreAbove n l
-    → changed (set x p image) l ≡ set (changed x l) p image
+    → changed_pages (set x p image) l ≡ set (changed_pages x l) p image
 changed_above n [] x p image le above = refl
 changed_above n (c ∷ cs) x p image le above =
-    ap (λ (y : List (List ℕ)). changed y cs) (set_comm x p c.0 image c.1 (λ is. absurd (omega (arith, le, above.0, is))))
+    ap (λ (y : List (List ℕ)). changed_pages y cs) (set_comm x p c.0 image c.1 (λ is. absurd (omega (arith, le, above.0, is))))
     ∙ changed_above n cs (set x c.0 c.1) p image le above.1
 
-pub changed_with : (x : List (List ℕ)) (p : ℕ) (image : List ℕ) (l : List Change) → PagesRise l → changed x (with_change p image l) ≡ set (changed x l) p image
+pub changed_with : (x : List (List ℕ)) (p : ℕ) (image : List ℕ) (l : List Change) → PagesRise l → changed_pages x (with_change p image l)
+    ≡ set (changed_pages x l) p image
 changed_with x p image [] rises = refl
 changed_with x p image (c ∷ cs) rises = elim (cases_order p c.0) [
-  | inr (inl less) ↦ ap (changed x) (with_before p image c cs less)
-      ∙ ap (λ (y : List (List ℕ)). changed y cs) (set_comm x p c.0 image c.1 (λ is. absurd (omega (arith, less, is))))
+  | inr (inl less) ↦ ap (changed_pages x) (with_before p image c cs less)
+      ∙ ap (λ (y : List (List ℕ)). changed_pages y cs) (set_comm x p c.0 image c.1 (λ is. absurd (omega (arith, less, is))))
       ∙ changed_above c.0 cs (set x c.0 c.1) p image (omega (arith, less)) rises.0
-  | inl same ↦ ap (changed x) (with_same p image c cs (sym same))
-      ∙ ap (λ (y : List (List ℕ)). changed y cs) (sym (set-set x p c.1 image) ∙ ap (λ (n : ℕ). set (set x n c.1) p image) same)
+  | inl same ↦ ap (changed_pages x) (with_same p image c cs (sym same))
+      ∙ ap (λ (y : List (List ℕ)). changed_pages y cs) (sym (set-set x p c.1 image) ∙ ap (λ (n : ℕ). set (set x n c.1) p image) same)
       ∙ changed_above c.0 cs (set x c.0 c.1) p image (omega (arith, same)) rises.0
-  | inr (inr more) ↦ ap (changed x) (with_after p image c cs more) ∙ changed_with (set x c.0 c.1) p image cs rises.1
+  | inr (inr more) ↦ ap (changed_pages x) (with_after p image c cs more) ∙ changed_with (set x c.0 c.1) p image cs rises.1
 ]
 
 -- one more page that is there: it is set
@@ -153,11 +154,11 @@ pub put_sets : (pages : List (List ℕ)) (m p : ℕ) (image : List ℕ) (l : Lis
 put_sets pages m p image l rises = changed_with (pages ++ replicate (m - length pages) []) p image l rises
 
 -- a page behind all that change
-changed_behind : (x : List (List ℕ)) (d : List ℕ) (l : List Change) → All (λ c. c.0 < length x) l → changed (x ++ d ∷ []) l ≡ changed x l ++ d ∷ []
+changed_behind : (x : List (List ℕ)) (d : List ℕ) (l : List Change) → All (λ c. c.0 < length x) l → changed_pages (x ++ d ∷ []) l ≡ changed_pages x l ++ d ∷ []
 changed_behind x d [] below = refl
 changed_behind x d (c ∷ cs) below =
     let Q : Change → Type 0 = λ e. e.0 < length x in
-    ap (λ (y : List (List ℕ)). changed y cs) (set-append_left x (d ∷ []) c.0 c.1 (All-head Q c cs below))
+    ap (λ (y : List (List ℕ)). changed_pages y cs) (set-append_left x (d ∷ []) c.0 c.1 (All-head Q c cs below))
     ∙ changed_behind (set x c.0 c.1) d cs (subst (λ (n : ℕ). All (λ e. e.0 < n) cs) (sym (length-set x c.0 c.1)) (All-tail Q c cs below))
 
 -- one that is next to them: it is added
@@ -171,10 +172,10 @@ put_adds pages m image l le rises below =
     ap (λ (n : ℕ). pages ++ replicate n []) count ∙ ap (λ (y : List (List ℕ)). pages ++ y) (sym (replicate-append-replicate (m - length pages) 1 []))
     ∙ sym (append_assoc pages (replicate (m - length pages) []) ([] ∷ [])) in
     let all : All (λ c. c.0 < length x) l = subst (λ (n : ℕ). All (λ c. c.0 < n) l) (sym size) below in
-    let end : length (changed x l) ≡ m = length-changed x l ∙ size in
+    let end : length (changed_pages x l) ≡ m = length-changed x l ∙ size in
     let none : m - m ≡ 0 = omega arith in
     put_sets pages (m + 1) m image l rises
-    ∙ ap (λ (y : List (List ℕ)). set (changed y l) m image) more
+    ∙ ap (λ (y : List (List ℕ)). set (changed_pages y l) m image) more
     ∙ ap (λ (y : List (List ℕ)). set y m image) (changed_behind x [] l all)
-    ∙ set-append_right (changed x l) ([] ∷ []) m m image end (omega arith)
-    ∙ ap (λ (k : ℕ). changed x l ++ set ([] ∷ []) k image) none
+    ∙ set-append_right (changed_pages x l) ([] ∷ []) m m image end (omega arith)
+    ∙ ap (λ (k : ℕ). changed_pages x l ++ set ([] ∷ []) k image) none

@@ -4,21 +4,21 @@ use Rattle.std.proofs.Common.{map, All, refl, sym, ◌∙◌, ap, subst, arith, 
 use Rattle.std.proofs.lemmas.List.{length-map}
 use Rattle.std.proofs.lemmas.List.FromFn.{map-range_with_len_more}
 use Rattle.tune_disk.specs.Disk.{DiskState, Written, Writes}
-use Rattle.tune_disk.specs.Inside.Spares.{Agrees, Spares}
+use Rattle.tune_disk.specs.Inside.Spares.{Agrees, SparesOffsets}
 use Rattle.tune_disk.proofs.Moments.{spares_then, spares_write}
 use Rattle.tune_journal.specs.ChangeList.{change_at}
 use Rattle.tune_journal.specs.Image.{window, number, page_offset, entry_offset, pages_of, entries, IsLog, HasLog, entry_count_of}
 use Rattle.tune_journal.specs.Inside.Looking.{HasEntries, HasEntry, Climbs, least_of}
 use Rattle.tune_journal.specs.Inside.Phases.{IsInNoPage}
 use Rattle.tune_journal.specs.FileOffsets.{block_bytes, entry_count_offset, least_length, most_pages}
-use Rattle.tune_journal.specs.Pages.{changed}
+use Rattle.tune_journal.specs.Pages.{changed_pages}
 use Rattle.tune_journal.proofs.Windows.{length-window}
 use Rattle.tune_journal.proofs.Loops.{image_more, changed-push, outside_page}
 use Rattle.tune_journal.proofs.Agreeing.{agree_number, agree_window, entries_at, length-entries}
 use Rattle.tune_journal.proofs.Standing.{in_no_page}
 
 -- The entries of a log, one more at a time.
-pub spares_agrees : (Kept : ℕ → Type 0) (a b : DiskState) → Spares Kept a b → Agrees Kept a.seen b.seen
+pub spares_agrees : (Kept : ℕ → Type 0) (a b : DiskState) → SparesOffsets Kept a b → Agrees Kept a.seen b.seen
 spares_agrees Kept a b s = record { longer = s.longer; same = λ i lt kept. s.seen i kept }
 
 pub entries_none : (m : ℕ) (f : List ℕ) → entries m 0 f ≡ []
@@ -37,7 +37,7 @@ all_below m k f has i d lt =
 
 -- One of them, while those before it are in their pages.
 module _ (m k i : ℕ) (start now : DiskState) (has : HasEntries m k start.seen) (lt : i < k)
-    (so_far : Spares (IsInNoPage (entries m k start.seen)) start now) where
+    (so_far : SparesOffsets (IsInNoPage (entries m k start.seen)) start now) where
   abbrev log : List (ℕ × List ℕ)
   log = entries m k start.seen
 
@@ -77,7 +77,7 @@ module _ (m k i : ℕ) (start now : DiskState) (has : HasEntries m k start.seen)
 
   pub copy_spares : {T E : Type 0} (r : Result T E) (next : DiskState)
       → Writes (page_offset (number (entry_offset m i) now.seen)) (window (entry_offset m i + 4) block_bytes now.seen) r now next
-      → Spares (IsInNoPage log) start next
+      → SparesOffsets (IsInNoPage log) start next
   copy_spares r next w = spares_then (IsInNoPage log) start now next so_far
       (spares_write (IsInNoPage log) (page_offset (number (entry_offset m i) now.seen)) (window (entry_offset m i + 4) block_bytes now.seen) r now next w
       (λ j out. apart j (outside_page log i j (omega (arith, lt, length-entries m k start.seen)) out)))
@@ -93,15 +93,15 @@ module _ (m k i : ℕ) (start now : DiskState) (has : HasEntries m k start.seen)
 
   pub copy_image : (next : DiskState)
       → Written (page_offset (number (entry_offset m i) now.seen)) (window (entry_offset m i + 4) block_bytes now.seen) now.seen next.seen
-      → pages_of m now.seen ≡ changed (pages_of m start.seen) (entries m i start.seen)
-      → pages_of m next.seen ≡ changed (pages_of m start.seen) (entries m (i + 1) start.seen)
+      → pages_of m now.seen ≡ changed_pages (pages_of m start.seen) (entries m i start.seen)
+      → pages_of m next.seen ≡ changed_pages (pages_of m start.seen) (entries m (i + 1) start.seen)
   copy_image next w before =
       image_more m (number (entry_offset m i) now.seen) (window (entry_offset m i + 4) block_bytes now.seen) now.seen next.seen image_size low
       (omega (arith, within)) w
       ∙ (λ t. set (before t) (page_same t) (image_same t))
       ∙ sym (changed-push (pages_of m start.seen) (entries m i start.seen)
       (number (entry_offset m i) start.seen, window (entry_offset m i + 4) block_bytes start.seen))
-      ∙ ap (changed (pages_of m start.seen)) (sym (entries_more m i start.seen))
+      ∙ ap (changed_pages (pages_of m start.seen)) (sym (entries_more m i start.seen))
 
 -- What the test of a log comes to.
 numbers_at : (xs : List (ℕ × List ℕ)) (i : ℕ) → get_or (map (λ e. e.0) xs) i 0 ≡ (get_or xs i (0, [])).0

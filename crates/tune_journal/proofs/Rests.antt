@@ -8,7 +8,7 @@ use Rattle.tune_journal.specs.Image.{StandsFor, pages_of, log_of, entries, entry
 use Rattle.tune_journal.specs.Inside.Phases.{KeepsBoth, IsOutside}
 use Rattle.tune_journal.specs.Inside.Rest.{IsAtRest, IsOpened, IsApplied}
 use Rattle.tune_journal.specs.FileOffsets.{gate_offset}
-use Rattle.tune_journal.specs.Pages.{changed}
+use Rattle.tune_journal.specs.Pages.{changed_pages}
 use Rattle.tune_journal.proofs.Standing.{stands_closed, stands_applying, stands_closing, log_same}
 
 -- a stop over a settled disk leaves its file
@@ -25,9 +25,9 @@ rest_stands n s rest = stands_closed n s.seen s.seen rest.headed rest.gate rest.
 pub rest_leaves : (n : ℕ) (s : DiskState) → IsAtRest n s → LeavesOnly s.now (StandsFor (pages_of n s.seen))
 rest_leaves n s rest = settled_only (StandsFor (pages_of n s.seen)) s rest.settled (rest_stands n s rest)
 
-pub opened_leaves : (m : ℕ) (s : DiskState) → IsOpened m s → LeavesOnly s.now (StandsFor (changed (pages_of m s.seen) (log_of s.seen)))
-opened_leaves m s opened = settled_only (StandsFor (changed (pages_of m s.seen) (log_of s.seen))) s opened.settled
-    (subst (λ (l : List (ℕ × List ℕ)). StandsFor (changed (pages_of m s.seen) l) s.seen) (sym (log_same m s.seen opened.new_count))
+pub opened_leaves : (m : ℕ) (s : DiskState) → IsOpened m s → LeavesOnly s.now (StandsFor (changed_pages (pages_of m s.seen) (log_of s.seen)))
+opened_leaves m s opened = settled_only (StandsFor (changed_pages (pages_of m s.seen) (log_of s.seen))) s opened.settled
+    (subst (λ (l : List (ℕ × List ℕ)). StandsFor (changed_pages (pages_of m s.seen) l) s.seen) (sym (log_same m s.seen opened.new_count))
     (stands_applying m s opened s.seen (agrees_self (KeepsBoth (entries m (entry_count_of s.seen) s.seen)) s.seen)))
 
 pub applied_leaves : (m : ℕ) (s : DiskState) → IsApplied m s → LeavesOnly s.now (StandsFor (pages_of m s.seen))

@@ -10,7 +10,7 @@ use Rattle.tune_journal.specs.Image.{HasPageCount, HasLog, StandsFor, StandsForE
 use Rattle.tune_journal.specs.Inside.Phases.{KeepsBoth, IsNoLog, IsOutside, IsInNoPage}
 use Rattle.tune_journal.specs.Inside.Rest.{IsAtRest, IsLogged, IsOpened, IsApplied}
 use Rattle.tune_journal.specs.FileOffsets.{block_bytes, gate_offset, gate_open, descriptor_offset, entry_count_offset, count_offset, pages_offset}
-use Rattle.tune_journal.specs.Pages.{changed}
+use Rattle.tune_journal.specs.Pages.{changed_pages}
 use Rattle.tune_journal.proofs.Changed.{Unnamed, changed_same}
 use Rattle.tune_journal.proofs.Agreeing.{agree_number, agree_page, length-pages_of, agree_pages_of, agree_entries, agree_headed, agree_count, agree_gate}
 use Rattle.tune_journal.proofs.Agreeing.{agree_log}
@@ -25,13 +25,13 @@ stands_closed n f c headed shut count has pages = record {
 }
 
 stands_open : (pages : List (List ℕ)) (m k : ℕ) (c : List ℕ) → IsHeaded c → gate_of c ≡ gate_open → new_count_of c ≡ m → entry_count_of c ≡ k → HasLog m k c
-    → pages ≡ changed (pages_of m c) (entries m k c) → StandsFor pages c
+    → pages ≡ changed_pages (pages_of m c) (entries m k c) → StandsFor pages c
 stands_open pages m k c headed is new_count size has are = record {
   headed = headed;
   is_closed = λ shut. absurd (shut is);
   is_open = λ _. (
     subst (λ (k' : ℕ). HasLog (new_count_of c) k' c) (sym size) (subst (λ (m' : ℕ). HasLog m' k c) (sym new_count) has),
-    are ∙ (λ t. changed (pages_of (sym new_count t) c) (entries (sym new_count t) (sym size t) c)),
+    are ∙ (λ t. changed_pages (pages_of (sym new_count t) c) (entries (sym new_count t) (sym size t) c)),
   );
 }
 
@@ -48,13 +48,13 @@ stands_logging n m s rest le c agrees =
 
 -- while the gate is opened
 pub stands_opening : (n m : ℕ) (s : DiskState) → IsLogged n m s → (c : List ℕ) → Agrees (IsOutside gate_offset 1) s.seen c
-    → StandsForEither (pages_of n s.seen) (changed (pages_of m s.seen) (log_of s.seen)) c
+    → StandsForEither (pages_of n s.seen) (changed_pages (pages_of m s.seen) (log_of s.seen)) c
 stands_opening n m s logged c agrees = elim (cases_eq (gate_of c) gate_open) [
   | inl is ↦ inr (stands_open _ m k c headed is
       (agree_number (IsOutside gate_offset 1) f c agrees descriptor_offset (omega (arith, rest.headed.long)) (λ i le lt. inr (omega arith)) ∙ logged.new_count)
       (agree_number (IsOutside gate_offset 1) f c agrees entry_count_offset (omega (arith, rest.headed.long)) (λ i le lt. inr (omega arith)))
       (agree_log (IsOutside gate_offset 1) f c agrees m k logged.log (λ i le lt. inr (omega arith)))
-      (λ t. changed (sym (agree_pages_of (IsOutside gate_offset 1) f c agrees m logged.log.count.long (λ i le lt. inr (omega arith))) t) (log_is t)))
+      (λ t. changed_pages (sym (agree_pages_of (IsOutside gate_offset 1) f c agrees m logged.log.count.long (λ i le lt. inr (omega arith))) t) (log_is t)))
   | inr shut ↦ inl (stands_closed n f c headed shut
       (agree_number (IsOutside gate_offset 1) f c agrees count_offset (omega (arith, rest.headed.long)) (λ i le lt. inr (omega arith)) ∙ rest.count)
       (agree_count (IsOutside gate_offset 1) f c agrees n rest.pages)
@@ -138,16 +138,17 @@ module _ (m : ℕ) (s : DiskState) (opened : IsOpened m s) (c : List ℕ) (agree
   applying_entries = agree_entries Kept s.seen c agrees m (entry_count_of s.seen) opened.log.long (λ i le lt. behind i le)
 
   -- the pages that the log does not name are those that stood there
-  pub applying_pages : changed (pages_of m c) log ≡ changed (pages_of m s.seen) log
+  pub applying_pages : changed_pages (pages_of m c) log ≡ changed_pages (pages_of m s.seen) log
   applying_pages = changed_same (pages_of m c) (pages_of m s.seen) log (length-pages_of m c ∙ sym (length-pages_of m s.seen))
       (λ p d lt un. agree_page Kept s.seen c agrees m p d (omega (arith, length-pages_of m c)) opened.log.count.long
       (λ i le lt'. (unnamed_outside p i log un le lt', inr (omega arith))))
 
   -- while the images are put into their pages
-  pub stands_applying : StandsFor (changed (pages_of m s.seen) log) c
+  pub stands_applying : StandsFor (changed_pages (pages_of m s.seen) log) c
   stands_applying =
-      stands_open (changed (pages_of m s.seen) log) m (entry_count_of s.seen) c applying_headed applying_gate applying_new_count applying_size applying_log
-      (sym applying_pages ∙ ap (changed (pages_of m c)) (sym applying_entries))
+      stands_open (changed_pages (pages_of m s.seen) log) m
+      (entry_count_of s.seen) c applying_headed applying_gate applying_new_count applying_size applying_log
+      (sym applying_pages ∙ ap (changed_pages (pages_of m c)) (sym applying_entries))
 
 pub log_same : (m : ℕ) (f : List ℕ) → new_count_of f ≡ m → log_of f ≡ entries m (entry_count_of f) f
 log_same m f is = ap (λ (m' : ℕ). entries m' (entry_count_of f) f) is
@@ -160,7 +161,7 @@ stands_closing m s applied c agrees = elim (cases_eq (gate_of c) gate_open) [
       ∙ opened.new_count)
       (agree_number (IsOutside gate_offset 1) s.seen c agrees entry_count_offset (omega (arith, opened.headed.long)) (λ i le lt. inr (omega arith)))
       (agree_log (IsOutside gate_offset 1) s.seen c agrees m (entry_count_of s.seen) opened.log (λ i le lt. inr (omega arith)))
-      (applied.pages ∙ (λ t. changed (sym pages t) (log_is t)))
+      (applied.pages ∙ (λ t. changed_pages (sym pages t) (log_is t)))
   | inr shut ↦ stands_closed m s.seen c headed shut
       (agree_number (IsOutside gate_offset 1) s.seen c agrees count_offset (omega (arith, opened.headed.long)) (λ i le lt. inr (omega arith)) ∙ applied.count)
       (agree_count (IsOutside gate_offset 1) s.seen c agrees m opened.log.count)

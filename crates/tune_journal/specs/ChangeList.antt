@@ -24,5 +24,5 @@ abbrev pub changed_page : List (ℕ × List ℕ) → ℕ → ℕ
 changed_page changes i = (change_at changes i).0
 
 -- the first bytes of an image, and zeros behind them
-abbrev pub padded : List ℕ → List ℕ
-padded start = start ++ replicate (4096 - length start) 0
+abbrev pub padded_image : List ℕ → List ℕ
+padded_image start = start ++ replicate (4096 - length start) 0

@@ -48,8 +48,8 @@ abbrev pub pages_offset : ℕ
 pages_offset = 16384
 
 -- an entry of the log: the number of a page, and its image
-abbrev pub entry_bytes : ℕ
-entry_bytes = 4100
+abbrev pub log_entry_bytes : ℕ
+log_entry_bytes = 4100
 
 -- the length of a file with one page
 abbrev pub least_length : ℕ

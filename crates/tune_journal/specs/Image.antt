@@ -7,9 +7,10 @@ use Rattle.std.specs.List.{range_with_len}
 use Rattle.tune_journal.specs.FileOffsets.{block_bytes, magic, magic_offset, magic_bytes}
 use Rattle.tune_journal.specs.FileOffsets.{gate_offset}
 use Rattle.tune_journal.specs.FileOffsets.{gate_open, descriptor_offset, entry_count_offset}
-use Rattle.tune_journal.specs.FileOffsets.{count_offset, pages_offset, entry_bytes, least_length}
+use Rattle.tune_journal.specs.FileOffsets.{count_offset, pages_offset, log_entry_bytes}
+use Rattle.tune_journal.specs.FileOffsets.{least_length}
 use Rattle.tune_journal.specs.FileOffsets.{most_pages}
-use Rattle.tune_journal.specs.Pages.{changed}
+use Rattle.tune_journal.specs.Pages.{changed_pages}
 use Rattle.std.specs.List.Sorted.{IsStrictlyIncreasing}
 
 -- the n bytes from there on
@@ -26,7 +27,7 @@ page_offset page = pages_offset + block_bytes * page
 
 -- entry i of the log behind m pages
 abbrev pub entry_offset : ℕ → ℕ → ℕ
-entry_offset m i = pages_offset + block_bytes * m + entry_bytes * i
+entry_offset m i = pages_offset + block_bytes * m + log_entry_bytes * i
 
 -- the first n pages, each at its offset
 unfoldable pub pages_of : ℕ → List ℕ → List (List ℕ)
@@ -91,7 +92,7 @@ pub record StandsFor (pages : List (List ℕ)) (file : List ℕ) : Type 0 where
       → HasPageCount (count_of file) file × (pages ≡ pages_of (count_of file) file)
   pub is_open : gate_of file ≡ gate_open
       → HasLog (new_count_of file) (entry_count_of file) file
-      × (pages ≡ changed (pages_of (new_count_of file) file) (log_of file))
+      × (pages ≡ changed_pages (pages_of (new_count_of file) file) (log_of file))
 
 -- before or after
 abbrev pub StandsForEither : List (List ℕ) → List (List ℕ) → List ℕ → Type 0

@@ -8,13 +8,13 @@ abbrev pub page_at : List (List ℕ) → ℕ → List ℕ
 page_at pages p = slice_index_or pages p []
 
 -- these pages, with the images that the changes name
-abbrev pub changed : List (List ℕ) → List (ℕ × List ℕ) → List (List ℕ)
-changed pages [] = pages
-changed pages (change ∷ changes) = changed (slice_set pages change.0 change.1) changes
+abbrev pub changed_pages : List (List ℕ) → List (ℕ × List ℕ) → List (List ℕ)
+changed_pages pages [] = pages
+changed_pages pages (change ∷ changes) = changed_pages (slice_set pages change.0 change.1) changes
 
 -- the pages that a commit makes, m of them: these, and new ones behind them, with what changes
 abbrev pub pages_after : List (List ℕ) → ℕ → List (ℕ × List ℕ) → List (List ℕ)
-pages_after pages m changes = changed (pages ++ replicate (m - length pages) []) changes
+pages_after pages m changes = changed_pages (pages ++ replicate (m - length pages) []) changes
 
 -- each page from the n-th on is among the changes
 abbrev pub NamesAll : ℕ → ℕ → List (ℕ × List ℕ) → Type 0

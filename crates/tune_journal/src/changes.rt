@@ -5,7 +5,7 @@ ghost use Rattle.std.specs.Prelude.{IfOk, IfErr, IfSome, All, option_map, vec_ca
 ghost use Rattle.std.specs.Prelude.{◌+◌, ◌-◌, ◌≤◌, ◌++◌, take, drop};
 ghost use Rattle.std.specs.List.Sorted.{IsStrictlyIncreasing};
 ghost use Rattle.tune_journal.specs.ChangeList.{with_change, image_of, change_at, changed_page};
-ghost use Rattle.tune_journal.specs.ChangeList.{padded};
+ghost use Rattle.tune_journal.specs.ChangeList.{padded_image};
 ghost use Rattle.tune_journal.specs.Inside.ChangeOrder.{FoundAt, MissingAt};
 ghost use Rattle.tune_journal.specs.Inside.ShortImages.{IsBlankFrom};
 ghost use Rattle.tune_journal.specs.FileOffsets.{block_bytes};
@@ -77,11 +77,11 @@ pub struct Changes {
 
 impl Model for Changes {
     ghost use Rattle.std.specs.Prelude.{ℕ, List, vec_capacity};
-    ghost use Rattle.tune_journal.specs.Inside.ListedChanges.{listed, HoldsChanges};
+    ghost use Rattle.tune_journal.specs.Inside.ListedChanges.{listed_changes, HoldsChanges};
 
     ghost Value = { List (ℕ × List ℕ) };
 
-    ghost view = { λ c. listed c.starts.items c.whole.items c.changed.items };
+    ghost view = { λ c. listed_changes c.starts.items c.whole.items c.changed.items };
 
     ghost invariant = { λ c.
         HoldsChanges c.starts.items c.whole.items c.changed.items (vec_capacity c.whole) };
@@ -130,9 +130,9 @@ impl Changes {
     pub fn put_front(&mut self, page: u32, head: &[u8], rest: &[u8]) -> Result<(), AllocError>
         requires { length head.now + length rest.now ≤ block_bytes }
         ensures ok { OnOk result
-            (self.new ≡ with_change page (padded (head.now ++ rest.now)) self.old) }
+            (self.new ≡ with_change page (padded_image (head.now ++ rest.now)) self.old) }
         ensures found { OnOk result
-            (image_of page self.new ≡ Some (padded (head.now ++ rest.now))) }
+            (image_of page self.new ≡ Some (padded_image (head.now ++ rest.now))) }
         ensures others { (other : ℕ) → other ≢ page
             → image_of other self.new ≡ image_of other self.old }
         ensures some { OnOk result (0 < length self.new) }
@@ -316,7 +316,7 @@ impl Changes {
         requires { length head.now + length rest.now ≤ block_bytes }
         ensures place { IfOk result (λ found. FoundAt page found.at self.new) }
         ensures is_new { IfOk result (λ found. found.is_new ≡ true
-            → self.new ≡ with_change page (padded (head.now ++ rest.now)) self.old) }
+            → self.new ≡ with_change page (padded_image (head.now ++ rest.now)) self.old) }
         // What is then put stands in place of both.
         ensures put { OnOk result ((image : List ℕ)
             → with_change page image self.new ≡ with_change page image self.old) }
@@ -338,7 +338,7 @@ impl Changes {
         requires missing { MissingAt page at self.old }
         requires size { length head.now + length rest.now ≤ block_bytes }
         ensures ok { OnOk result
-            (self.new ≡ with_change page (padded (head.now ++ rest.now)) self.old) }
+            (self.new ≡ with_change page (padded_image (head.now ++ rest.now)) self.old) }
         ensures found { OnOk result (FoundAt page at self.new) }
         ensures err { OnErr result (self.new ≡ self.old) }
     {
@@ -374,7 +374,7 @@ impl Changes {
     fn replace_front(&mut self, at: usize, page: u32, head: &[u8], rest: &[u8])
         requires found { FoundAt page at self.old }
         requires size { length head.now + length rest.now ≤ block_bytes }
-        ensures { self.new ≡ with_change page (padded (head.now ++ rest.now)) self.old }
+        ensures { self.new ≡ with_change page (padded_image (head.now ++ rest.now)) self.old }
     {
         self.replace(at, page, &restored(head, rest));
     }
@@ -485,7 +485,7 @@ fn copy_from(starts: &[u8], from: usize, image: &mut [u8]) -> usize
 // The image of these first bytes.
 fn restored(head: &[u8], rest: &[u8]) -> PageImage
     requires { length head.now + length rest.now ≤ block_bytes }
-    ensures { result.bytes ≡ padded (head.now ++ rest.now) }
+    ensures { result.bytes ≡ padded_image (head.now ++ rest.now) }
 {
     let mut bytes = [0; 4096];
     put_both(&mut bytes, head, rest);
@@ -496,7 +496,7 @@ fn restored(head: &[u8], rest: &[u8]) -> PageImage
 fn put_both(image: &mut [u8], head: &[u8], rest: &[u8])
     requires zeros { image.old ≡ replicate block_bytes 0 }
     requires size { length head.now + length rest.now ≤ block_bytes }
-    ensures { image.new ≡ padded (head.now ++ rest.now) }
+    ensures { image.new ≡ padded_image (head.now ++ rest.now) }
 {
     put_before(&mut image[head.len()..], rest);
     image[..head.len()].copy_from_slice(head);
@@ -517,7 +517,7 @@ fn fill_front(image: &mut [u8], start: &[u8], used: usize) -> usize
     requires image { length image.old ≡ block_bytes }
     requires start { length start.now ≤ block_bytes }
     requires used { IsBlankFrom used image.old }
-    ensures image { image.new ≡ padded start.now }
+    ensures image { image.new ≡ padded_image start.now }
     ensures used { IsBlankFrom result image.new }
 {
     let size = start.len();

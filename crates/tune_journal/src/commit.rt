@@ -3,16 +3,16 @@ ghost use Rattle.std.specs.Prelude.{◌≡◌, ◌<◌, ◌≤◌, ◌^◌, ◌+
 ghost use Rattle.std.specs.Prelude.{OnOk};
 ghost use Rattle.byteorder.specs.Endian.{big_bytes};
 ghost use Rattle.tune_disk.specs.Disk.{Writes, Written, Calls};
-ghost use Rattle.tune_disk.specs.Inside.Spares.{Spares};
+ghost use Rattle.tune_disk.specs.Inside.Spares.{SparesOffsets};
 ghost use Rattle.tune_journal.specs.ChangeList.{change_at};
 ghost use Rattle.tune_journal.specs.Image.{count_of, IsLog, page_offset, entry_offset};
 ghost use Rattle.tune_journal.specs.Image.{pages_of};
 ghost use Rattle.tune_journal.specs.Inside.Phases.{log_entry, WritesAndSyncs, IsNoLog, IsOutside};
-ghost use Rattle.tune_journal.specs.Inside.Phases.{IsInNoPage, HoldsEntries, HoldsDescriptor};
+ghost use Rattle.tune_journal.specs.Inside.Phases.{IsInNoPage, HoldsLogEntries, HoldsDescriptor};
 ghost use Rattle.tune_journal.specs.Inside.Phases.{KeepsBoth};
 ghost use Rattle.tune_journal.specs.Inside.ShortImages.{IsBlankFrom};
-ghost use Rattle.tune_journal.specs.FileOffsets.{block_bytes, entry_bytes, most_pages};
-ghost use Rattle.tune_journal.specs.Pages.{changed};
+ghost use Rattle.tune_journal.specs.FileOffsets.{block_bytes, log_entry_bytes, most_pages};
+ghost use Rattle.tune_journal.specs.Pages.{changed_pages};
 
 use crate::changes::{Changes, PageImage};
 use crate::file_offsets::{
@@ -51,8 +51,8 @@ fn descriptor_of(new_count: u32, entries: u32) -> [u8; 8]
 
 // Writes an entry of the log.
 fn write_entry<D: Disk>(disk: &mut D, at: u64, entry: &[u8; 4100]) -> Result<(), DeviceFault>
-    requires { at + entry_bytes ≤ 2 ^ 40 }
-    ensures size { length entry.now ≡ entry_bytes }
+    requires { at + log_entry_bytes ≤ 2 ^ 40 }
+    ensures size { length entry.now ≡ log_entry_bytes }
     ensures write { let old = D.state disk.old in let new = D.state disk.new in
         D.honest disk.new → Writes at entry.now result old new }
     ensures calls { Calls D.honest D.failures result disk.old disk.new }
@@ -101,11 +101,11 @@ fn write_change<D: Disk>(
 
 // Writes all entries of a log, one behind another.
 fn write_entries<D: Disk>(disk: &mut D, base: u64, changes: &Changes) -> Result<(), DeviceFault>
-    requires { base + entry_bytes * length changes.now ≤ 2 ^ 40 }
+    requires { base + log_entry_bytes * length changes.now ≤ 2 ^ 40 }
     ensures spares { D.honest disk.new
-        → Spares (λ i. i < base) (D.state disk.old) (D.state disk.new) }
+        → SparesOffsets (λ i. i < base) (D.state disk.old) (D.state disk.new) }
     ensures entries { OnOk result (D.honest disk.new
-        → HoldsEntries base changes.now (length changes.now) (D.state disk.new).seen) }
+        → HoldsLogEntries base changes.now (length changes.now) (D.state disk.new).seen) }
     ensures calls { Calls D.honest D.failures result disk.old disk.new }
 {
     let mut entry = [0; ENTRY_BYTES];
@@ -124,11 +124,11 @@ fn write_entries<D: Disk>(disk: &mut D, base: u64, changes: &Changes) -> Result<
 fn write_images<D: Disk>(disk: &mut D, changes: &Changes) -> Result<(), DeviceFault>
     requires { All (λ e. e.0 < most_pages) changes.now }
     ensures spares { D.honest disk.new
-        → Spares (IsInNoPage changes.now) (D.state disk.old) (D.state disk.new) }
+        → SparesOffsets (IsInNoPage changes.now) (D.state disk.old) (D.state disk.new) }
     ensures images { let old = D.state disk.old in let new = D.state disk.new in
         OnOk result (D.honest disk.new → (n : ℕ)
         → page_offset n ≤ length old.seen → All (λ e. e.0 < n) changes.now
-        → pages_of n new.seen ≡ changed (pages_of n old.seen) changes.now) }
+        → pages_of n new.seen ≡ changed_pages (pages_of n old.seen) changes.now) }
     ensures calls { Calls D.honest D.failures result disk.old disk.new }
 {
     let mut image = PageImage::blank();
@@ -165,7 +165,7 @@ pub(crate) fn write_log<D: Disk>(
     ensures writes { D.honest disk.new
         → WritesAndSyncs (IsNoLog new_count) result (D.state disk.old) (D.state disk.new) }
     ensures entries { let base = entry_offset new_count 0 in OnOk result (D.honest disk.new
-        → HoldsEntries base changes.now (length changes.now) (D.state disk.new).seen) }
+        → HoldsLogEntries base changes.now (length changes.now) (D.state disk.new).seen) }
     ensures log { OnOk result (IsLog new_count changes.now) }
     ensures descriptor { OnOk result (D.honest disk.new
         → HoldsDescriptor new_count (length changes.now) (D.state disk.new).seen) }
@@ -188,7 +188,7 @@ pub(crate) fn write_pages<D: Disk>(
     ensures images { let old = D.state disk.old in let new = D.state disk.new in
         OnOk result (D.honest disk.new → (n : ℕ)
         → page_offset n ≤ length old.seen → All (λ e. e.0 < n) changes.now
-        → pages_of n new.seen ≡ changed (pages_of n old.seen) changes.now) }
+        → pages_of n new.seen ≡ changed_pages (pages_of n old.seen) changes.now) }
     ensures count { OnOk result (D.honest disk.new → count_of (D.state disk.new).seen ≡ count) }
     ensures calls { Calls D.honest D.failures result disk.old disk.new }
 {

@@ -1,13 +1,13 @@
 // Recovery: the images of a log are copied into their pages.
 ghost use Rattle.std.specs.Prelude.{◌≡◌, ◌<◌, ◌≤◌, ◌+◌, OnOk};
 ghost use Rattle.tune_disk.specs.Disk.{Writes};
-ghost use Rattle.tune_disk.specs.Inside.Spares.{Spares};
+ghost use Rattle.tune_disk.specs.Inside.Spares.{SparesOffsets};
 ghost use Rattle.tune_journal.specs.Image.{window, number, page_offset, entry_offset};
 ghost use Rattle.tune_journal.specs.Image.{entries as entries_in, pages_of, count_of};
 ghost use Rattle.tune_journal.specs.Inside.Looking.{HasEntries, HasEntry};
 ghost use Rattle.tune_journal.specs.Inside.Phases.{WritesAndSyncs, KeepsBoth, IsInNoPage, CallsIf};
 ghost use Rattle.tune_journal.specs.FileOffsets.{block_bytes, most_pages};
-ghost use Rattle.tune_journal.specs.Pages.{changed};
+ghost use Rattle.tune_journal.specs.Pages.{changed_pages};
 
 use crate::commit::write_synced;
 use crate::file_offsets::{COUNT_OFFSET, ENTRY_BYTES, entry_offset, number_bytes, page_offset};
@@ -49,11 +49,11 @@ fn copy_entries<D: Disk>(disk: &mut D, count: u32, entries: u32) -> Result<(), D
     requires { (count ≤ most_pages) × (entries ≤ count) }
     ensures spares { let old = D.state disk.old in let new = D.state disk.new in
         D.honest disk.new → HasEntries count entries old.seen
-        → Spares (IsInNoPage (entries_in count entries old.seen)) old new }
+        → SparesOffsets (IsInNoPage (entries_in count entries old.seen)) old new }
     ensures images { let old = D.state disk.old in let new = D.state disk.new in
         let log = entries_in count entries old.seen in
         OnOk result (D.honest disk.new → HasEntries count entries old.seen
-        → pages_of count new.seen ≡ changed (pages_of count old.seen) log) }
+        → pages_of count new.seen ≡ changed_pages (pages_of count old.seen) log) }
     ensures calls { CallsIf D.honest D.failures result disk.old disk.new
         (HasEntries count entries (D.state disk.old).seen) }
 {
@@ -73,7 +73,7 @@ pub(crate) fn copy_log<D: Disk>(disk: &mut D, count: u32, entries: u32) -> Resul
     ensures images { let old = D.state disk.old in let new = D.state disk.new in
         let log = entries_in count entries old.seen in
         OnOk result (D.honest disk.new → HasEntries count entries old.seen
-        → pages_of count new.seen ≡ changed (pages_of count old.seen) log) }
+        → pages_of count new.seen ≡ changed_pages (pages_of count old.seen) log) }
     ensures count { OnOk result (D.honest disk.new → count_of (D.state disk.new).seen ≡ count) }
     ensures calls { CallsIf D.honest D.failures result disk.old disk.new
         (HasEntries count entries (D.state disk.old).seen) }

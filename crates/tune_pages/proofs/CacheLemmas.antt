@@ -20,22 +20,22 @@ use Rattle.tune_journal.specs.Pages.{page_at, pages_after}
 use Rattle.tune_journal.specs.declared.changes.PageImage.{PageImage}
 use Rattle.tune_journal.proofs.Above.{page_kept_after, page_changed_after, length-pages_after}
 use Rattle.tune_journal.proofs.Puts.{image_past}
-use Rattle.tune_pages.specs.Chain.{next_of, piece_of, IsLink}
-use Rattle.tune_pages.specs.Inside.Cached.{Entry, KeepsOnly, KeepsOneMore, HasImage, HasLinkImage, Replaces, ReplacesAll, AreKept}
+use Rattle.tune_pages.specs.Chain.{next_page_of, piece_of, IsLink}
+use Rattle.tune_pages.specs.Inside.Cached.{CachedImage, KeepsOnly, KeepsOneMore, HasImage, HasLinkImage, Replaces, ReplacesAll, AreKept}
 
 equal : (k page : ℕ) → nat_eq page k ≡ true → k ≡ page
 equal k page is = search rules
 
 -- what is found is the image of the page
-pub found_image : (page : ℕ) (entries : List Entry) (kept : Box PageImage) → lookup (nat_eq page) entries ≡ Some kept
+pub found_image : (page : ℕ) (entries : List CachedImage) (kept : Box PageImage) → lookup (nat_eq page) entries ≡ Some kept
     → HasImage entries page kept.value.bytes
 found_image page entries kept is =
     let at = Contains-lookup (nat_eq page) entries kept is in
     (kept, subst (λ (k : ℕ). Contains entries (k, kept)) (equal at.0 page at.2) at.1, refl)
 
 -- where it is of a page of a chain, its bytes that count are added
-pub link_found : (next : Option ℕ) (entries : List Entry) (page : ℕ) (image before after : List ℕ) → HasImage entries page image
-    → IfSome next (λ n. IsLink image × (n ≡ next_of image) × (after ≡ before ++ piece_of image))
+pub link_found : (next : Option ℕ) (entries : List CachedImage) (page : ℕ) (image before after : List ℕ) → HasImage entries page image
+    → IfSome next (λ n. IsLink image × (n ≡ next_page_of image) × (after ≡ before ++ piece_of image))
     → IfSome next (λ n. HasLinkImage entries page n before after)
 link_found None entries page image before after has some = tt
 link_found (Some n) entries page image before after has some = (image, has, some.0, some.1, some.2)
@@ -61,7 +61,8 @@ one_or_none (Err value) old new page copy ok err =
     subst (λ (after : LruCache ℕ (Box PageImage)). KeepsOneMore old.entries after.entries page copy.value.bytes) (sym err) (λ entry has. inl has)
 
 -- what was there before a place was made for the image was there before that
-pub one_more_of : (old now new : List Entry) (page : ℕ) (image : List ℕ) → KeepsOnly old now → KeepsOneMore now new page image → KeepsOneMore old new page image
+pub one_more_of : (old now new : List CachedImage) (page : ℕ) (image : List ℕ) → KeepsOnly old now → KeepsOneMore now new page image
+    → KeepsOneMore old new page image
 one_more_of old now new page image only more entry has = elim (more entry has) [
   | inl was ↦ inl (only entry was)
   | inr put ↦ inr put
@@ -76,12 +77,13 @@ differs page k false_is = λ is. (let yes : nat_eq page k ≡ true = subst (λ (
     absurd (true≢false (sym yes ∙ false_is)))
 
 -- of a page that has no image, no image is replaced
-pub none_replaced : (page : ℕ) (entries : List Entry) (changes : List (ℕ × List ℕ)) → lookup (nat_eq page) entries ≡ None
+pub none_replaced : (page : ℕ) (entries : List CachedImage) (changes : List (ℕ × List ℕ)) → lookup (nat_eq page) entries ≡ None
     → Replaces entries entries changes page
 none_replaced page entries changes none entry has = inl (has, differs page entry.0 (none_found (nat_eq page) entries none entry has))
 
 -- the others have no image of it
-others : (page : ℕ) (entries : List Entry) → IsDistinct nat_eq (keys_of entries) → (entry : Entry) → Contains (remove_entry (nat_eq page) entries) entry
+others : (page : ℕ) (entries : List CachedImage) → IsDistinct nat_eq (keys_of entries) → (entry : CachedImage)
+    → Contains (remove_entry (nat_eq page) entries) entry
     → entry.0 ≢ page
 others page entries distinct entry has =
     let yes = nat_eq_equiv.refl page in
@@ -89,19 +91,19 @@ others page entries distinct entry has =
     lookup-remove_entry nat_eq_equiv (nat_eq page) (same_test page) page entries distinct ∙ rw yes refl in
     differs page entry.0 (none_found (nat_eq page) (remove_entry (nat_eq page) entries) none entry has)
 
-entry_of : (page : ℕ) (entries : List Entry) (kept : Box PageImage) → lookup (nat_eq page) entries ≡ Some kept
-    → (entry : Entry) × (lookup_entry (nat_eq page) entries ≡ Some entry)
+entry_of : (page : ℕ) (entries : List CachedImage) (kept : Box PageImage) → lookup (nat_eq page) entries ≡ Some kept
+    → (entry : CachedImage) × (lookup_entry (nat_eq page) entries ≡ Some entry)
 entry_of page entries kept is =
-    let same : option_map (λ (e : Entry). e.1) (lookup_entry (nat_eq page) entries) ≡ lookup (nat_eq page) entries =
+    let same : option_map (λ (e : CachedImage). e.1) (lookup_entry (nat_eq page) entries) ≡ lookup (nat_eq page) entries =
     lookup-lookup_entry (nat_eq page) entries in
     (elim (lookup_entry (nat_eq page) entries) as (λ o. lookup_entry (nat_eq page) entries ≡ o
-    → (entry : Entry) × (lookup_entry (nat_eq page) entries ≡ Some entry)) [
-      | None ↦ λ none. (let never : Some kept ≡ None = sym is ∙ sym same ∙ ap (option_map (λ (e : Entry). e.1)) none in absurd cc)
+    → (entry : CachedImage) × (lookup_entry (nat_eq page) entries ≡ Some entry)) [
+      | None ↦ λ none. (let never : Some kept ≡ None = sym is ∙ sym same ∙ ap (option_map (λ (e : CachedImage). e.1)) none in absurd cc)
       | Some entry ↦ λ found. (entry, found)
     ]) refl
 
 -- where it has one, that one is
-pub one_replaced : (page : ℕ) (entries : List Entry) (changes : List (ℕ × List ℕ)) (kept new : Box PageImage) → IsDistinct nat_eq (keys_of entries)
+pub one_replaced : (page : ℕ) (entries : List CachedImage) (changes : List (ℕ × List ℕ)) (kept new : Box PageImage) → IsDistinct nat_eq (keys_of entries)
     → lookup (nat_eq page) entries ≡ Some kept → image_of page changes ≡ Some new.value.bytes
     → Replaces entries (set_value (nat_eq page) (promoted (nat_eq page) entries) new) changes page
 one_replaced page entries changes kept new distinct is changed =
@@ -111,20 +113,20 @@ one_replaced page entries changes kept new distinct is changed =
     let after : set_value (nat_eq page) (promoted (nat_eq page) entries) new ≡ (first.0, new) ∷ remove_entry (nat_eq page) entries =
     rw (found.1, there.1) refl in
     let key : first.0 ≡ page = equal first.0 page there.1 in
-    subst (λ (l : List Entry). Replaces entries l changes page) (sym after)
+    subst (λ (l : List CachedImage). Replaces entries l changes page) (sym after)
     (λ entry has. elim (Contains-cons (first.0, new) (remove_entry (nat_eq page) entries) entry has) [
-      | inl put ↦ inr (ap (λ (e : Entry). image_of e.0 changes) (sym put) ∙ ap (λ (p : ℕ). image_of p changes) key ∙ changed
-          ∙ ap (λ (e : Entry). Some e.1.value.bytes) put)
+      | inl put ↦ inr (ap (λ (e : CachedImage). image_of e.0 changes) (sym put) ∙ ap (λ (p : ℕ). image_of p changes) key ∙ changed
+          ∙ ap (λ (e : CachedImage). Some e.1.value.bytes) put)
       | inr other ↦ inl (Contains-remove_entry (nat_eq page) entries entry other, others page entries distinct entry other)
     ])
 
 -- IMAGES OF PAGES THAT CHANGE
 -- the images of the first n pages that change are replaced
-abbrev pub ReplacesFirst : List (ℕ × List ℕ) → ℕ → List Entry → List Entry → Type 0
-ReplacesFirst changes n old new = (entry : Entry) → Contains new entry
+abbrev pub ReplacesFirst : List (ℕ × List ℕ) → ℕ → List CachedImage → List CachedImage → Type 0
+ReplacesFirst changes n old new = (entry : CachedImage) → Contains new entry
     → (Contains old entry × ((k : ℕ) → k < n → entry.0 ≢ changed_page changes k)) ⊎ (image_of entry.0 changes ≡ Some entry.1.value.bytes)
 
-pub replaced_more : (changes : List (ℕ × List ℕ)) (n : ℕ) (old now new : List Entry) → ReplacesFirst changes n old now
+pub replaced_more : (changes : List (ℕ × List ℕ)) (n : ℕ) (old now new : List CachedImage) → ReplacesFirst changes n old now
     → Replaces now new changes (changed_page changes n) → ReplacesFirst changes (n + 1) old new
 replaced_more changes n old now new first more entry has = elim (more entry has) [
   | inl was ↦ elim (first entry was.0) [
@@ -144,7 +146,7 @@ page_none : (page : ℕ) (changes : List (ℕ × List ℕ)) → ((k : ℕ) → k
 page_none page [] ne = refl
 page_none page (c ∷ cs) ne = image_past page c cs (ne 0 (omega arith)) ∙ page_none page cs (λ k lt. ne (suc k) (omega (arith, lt)))
 
-pub replaced_all : (changes : List (ℕ × List ℕ)) (old new : List Entry) → ReplacesFirst changes (length changes) old new → ReplacesAll old new changes
+pub replaced_all : (changes : List (ℕ × List ℕ)) (old new : List CachedImage) → ReplacesFirst changes (length changes) old new → ReplacesAll old new changes
 replaced_all changes old new first entry has = elim (first entry has) [
   | inl kept ↦ inl (kept.0, page_none entry.0 changes kept.1)
   | inr put ↦ inr put
@@ -152,15 +154,15 @@ replaced_all changes old new first entry has = elim (first entry has) [
 
 -- WHAT IS KEPT
 -- what is added of the image that is kept is what the page holds
-pub link_kept : (pages : List (List ℕ)) (entries : List Entry) (next : Option ℕ) (page : ℕ) (image before after : List ℕ) → AreKept pages entries
+pub link_kept : (pages : List (List ℕ)) (entries : List CachedImage) (next : Option ℕ) (page : ℕ) (image before after : List ℕ) → AreKept pages entries
     → page_at pages page ≡ image → IfSome next (λ n. HasLinkImage entries page n before after)
-    → IfSome next (λ n. IsLink image × (n ≡ next_of image) × (after ≡ before ++ piece_of image))
+    → IfSome next (λ n. IsLink image × (n ≡ next_page_of image) × (after ≡ before ++ piece_of image))
 link_kept pages entries None page image before after kept is some = tt
 link_kept pages entries (Some n) page image before after kept is some =
     let same : some.0 ≡ image = sym some.1.2 ∙ (kept (page, some.1.0) some.1.1).1 ∙ is in
-    subst (λ (i : List ℕ). IsLink i × (n ≡ next_of i) × (after ≡ before ++ piece_of i)) same (some.2, some.3, some.4)
+    subst (λ (i : List ℕ). IsLink i × (n ≡ next_page_of i) × (after ≡ before ++ piece_of i)) same (some.2, some.3, some.4)
 
-pub kept_more : (pages : List (List ℕ)) (old new : List Entry) (page : ℕ) (image : List ℕ) → AreKept pages old → KeepsOneMore old new page image
+pub kept_more : (pages : List (List ℕ)) (old new : List CachedImage) (page : ℕ) (image : List ℕ) → AreKept pages old → KeepsOneMore old new page image
     → page < length pages → image ≡ page_at pages page → AreKept pages new
 kept_more pages old new page image kept more below is entry has = elim (more entry has) [
   | inl was ↦ kept entry was
@@ -174,7 +176,7 @@ named_below m (c ∷ cs) page image below some = elim (cases_eq page c.0) [
   | inr other ↦ named_below m cs page image (All-tail (λ (d : ℕ × List ℕ). d.0 < m) c cs below) (sym (image_past page c cs other) ∙ some)
 ]
 
-pub kept_after : (pages : List (List ℕ)) (m : ℕ) (changes : List (ℕ × List ℕ)) (old new : List Entry) → AreKept pages old → ReplacesAll old new changes
+pub kept_after : (pages : List (List ℕ)) (m : ℕ) (changes : List (ℕ × List ℕ)) (old new : List CachedImage) → AreKept pages old → ReplacesAll old new changes
     → IsStrictlyIncreasing (map (λ c. c.0) changes) → All (λ c. c.0 < m) changes → length pages ≤ m → AreKept (pages_after pages m changes) new
 kept_after pages m changes old new kept all rising below le entry has =
     let size = length-pages_after pages m changes le in

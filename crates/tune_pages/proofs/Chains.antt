@@ -4,7 +4,7 @@ use Rattle.std.proofs.Common.{All, refl, sym, ◌∙◌, ap, subst, arith, appen
 use Rattle.std.proofs.lemmas.List.{append-nil, length-set}
 use Rattle.std.proofs.lemmas.List.Elements.{All-tail}
 use Rattle.tune_journal.specs.Pages.{page_at}
-use Rattle.tune_pages.specs.Chain.{next_of, piece_of, IsLink, Leads, bytes_along, IsChain}
+use Rattle.tune_pages.specs.Chain.{next_page_of, piece_of, IsLink, Leads, bytes_along, IsChain}
 use Rattle.tune_pages.specs.Stand.{IsFree, marked, AllFree}
 
 -- the pages of a trail are the same in both
@@ -20,8 +20,8 @@ leads_kept old new first (p ∷ trail) end le same leads =
       leads.1,
       omega (arith, leads.2),
       subst IsLink (sym here) leads.3,
-      subst (λ (q : ℕ). Leads new q trail end) (sym (ap next_of here))
-          (leads_kept old new (next_of (page_at old p)) trail end le (All-tail (λ q. page_at new q ≡ page_at old q) p trail same) leads.4),
+      subst (λ (q : ℕ). Leads new q trail end) (sym (ap next_page_of here))
+          (leads_kept old new (next_page_of (page_at old p)) trail end le (All-tail (λ q. page_at new q ≡ page_at old q) p trail same) leads.4),
     )
 
 pub bytes_kept : (old new : List (List ℕ)) (trail : List ℕ) → SameAlong trail old new → bytes_along new trail ≡ bytes_along old trail
@@ -46,7 +46,8 @@ leads_once pages first [] (q ∷ u) a b = absurd (omega (arith, b.0, b.1))
 leads_once pages first (p ∷ t) [] a b = absurd (omega (arith, a.0, a.1))
 leads_once pages first (p ∷ t) (q ∷ u) a b =
     let same : p ≡ q = sym a.0 ∙ b.0 in
-    let rest : t ≡ u = leads_once pages (next_of (page_at pages p)) t u a.4 (subst (λ (x : ℕ). Leads pages (next_of (page_at pages x)) u 0) (sym same) b.4) in
+    let rest : t
+    ≡ u = leads_once pages (next_page_of (page_at pages p)) t u a.4 (subst (λ (x : ℕ). Leads pages (next_page_of (page_at pages x)) u 0) (sym same) b.4) in
     cc
 
 pub chain_once : (pages : List (List ℕ)) (first : ℕ) (t u a b : List ℕ) → IsChain pages first t a → IsChain pages first u b → (t ≡ u) × (a ≡ b)
@@ -56,10 +57,10 @@ chain_once pages first t u a b c d =
 
 -- one page more
 pub leads_more : (pages : List (List ℕ)) (first : ℕ) (t : List ℕ) (p : ℕ) → Leads pages first t p → 0 < p → p < length pages → IsLink (page_at pages p)
-    → Leads pages first (t ++ p ∷ []) (next_of (page_at pages p))
+    → Leads pages first (t ++ p ∷ []) (next_page_of (page_at pages p))
 leads_more pages first [] p leads some lt link = (leads, some, lt, link, refl)
 leads_more pages first (q ∷ t) p leads some lt link =
-    (leads.0, leads.1, leads.2, leads.3, leads_more pages (next_of (page_at pages q)) t p leads.4 some lt link)
+    (leads.0, leads.1, leads.2, leads.3, leads_more pages (next_page_of (page_at pages q)) t p leads.4 some lt link)
 
 pub bytes_more : (pages : List (List ℕ)) (t : List ℕ) (p : ℕ) → bytes_along pages (t ++ p ∷ []) ≡ bytes_along pages t ++ piece_of (page_at pages p)
 bytes_more pages [] p = append-nil (piece_of (page_at pages p))
@@ -91,14 +92,14 @@ leads_split pages first [] p (q ∷ rest) ne walk chain =
         subst (λ (x : ℕ). x < length pages) here chain.2,
         subst
             (λ (x : ℕ). IsLink (page_at pages x)) here chain.3,
-        subst (λ (x : ℕ). Leads pages (next_of (page_at pages x)) rest 0) here chain.4,
+        subst (λ (x : ℕ). Leads pages (next_page_of (page_at pages x)) rest 0) here chain.4,
       ),
     )
 leads_split pages first (q ∷ t) p [] ne walk chain = absurd (omega (arith, walk.0, walk.1, chain))
 leads_split pages first (q ∷ t) p (r ∷ rest) ne walk chain =
     let here : r ≡ q = sym chain.0 ∙ walk.0 in
-    let more = leads_split pages (next_of (page_at pages q)) t p rest ne walk.4
-    (subst (λ (x : ℕ). Leads pages (next_of (page_at pages x)) rest 0) here chain.4) in
+    let more = leads_split pages (next_page_of (page_at pages q)) t p rest ne walk.4
+    (subst (λ (x : ℕ). Leads pages (next_page_of (page_at pages x)) rest 0) here chain.4) in
     let same : r ∷ rest ≡ (q ∷ t) ++ (p ∷ more.0) = ap (λ (x : ℕ). x ∷ rest) here ∙ ap (λ (l : List ℕ). q ∷ l) more.1 in
     (more.0, same, more.2)
 

@@ -2,7 +2,7 @@
 use Rattle.std.proofs.Common.{◌≡◌, ◌≢◌, ℕ, ◌+◌, ◌<◌, List, [], ◌∷◌, ◌++◌, length, set, Bool, true}
 use Rattle.std.proofs.Common.{length-append, refl, sym, ◌∙◌, ap, subst, arith}
 use Rattle.tune_journal.specs.Pages.{page_at}
-use Rattle.tune_pages.specs.Chain.{next_of, piece_of, IsLink, Leads, bytes_along}
+use Rattle.tune_pages.specs.Chain.{next_page_of, piece_of, IsLink, Leads, bytes_along}
 use Rattle.tune_pages.specs.Claim.{Claimable, IsClaimable, IsClaimableWithin, IsChainFault}
 use Rattle.tune_pages.specs.Inside.Claiming.{CanLink}
 use Rattle.tune_pages.specs.Stand.{IsFree, marked, AllFree}
@@ -32,7 +32,7 @@ walked_start pages before first bytes is = record { trail = []; long = refl; lea
 
 pub walked_more : (pages : List (List ℕ)) (before : List Bool) (first page next count : ℕ) (old bytes : List ℕ) (claimed marks : List Bool) → page ≢ 0
     → Walked pages before first page count old claimed → IsFree claimed page → marks ≡ set claimed page true
-    → IsLink (page_at pages page) × (next ≡ next_of (page_at pages page)) × (page < length pages)
+    → IsLink (page_at pages page) × (next ≡ next_page_of (page_at pages page)) × (page < length pages)
     → bytes ≡ old ++ piece_of (page_at pages page)
     → Walked pages before first next (count + 1) bytes marks
 walked_more pages before first page next count old bytes claimed marks ne walk free is link read = record {
@@ -76,12 +76,12 @@ walked_over pages before first page count bytes claimed ne walk (trail, all, som
 pub walked_next : (now pages : List (List ℕ)) (before : List Bool) (first page next count : ℕ) (old bytes : List ℕ) (claimed marks : List Bool) → now ≡ pages
     → page ≢ 0
     → Walked pages before first page count old claimed → IsFree claimed page × (marks ≡ set claimed page true)
-    → IsLink (page_at now page) × (next ≡ next_of (page_at now page)) × (page < length now)
+    → IsLink (page_at now page) × (next ≡ next_page_of (page_at now page)) × (page < length now)
     → bytes ≡ old ++ piece_of (page_at now page)
     → Walked pages before first next (count + 1) bytes marks
 walked_next now pages before first page next count old bytes claimed marks same ne walk free link read =
     walked_more pages before first page next count old bytes claimed marks ne walk free.0 free.1
-    (subst (λ (l : List (List ℕ)). IsLink (page_at l page) × (next ≡ next_of (page_at l page)) × (page < length l)) same link)
+    (subst (λ (l : List (List ℕ)). IsLink (page_at l page) × (next ≡ next_page_of (page_at l page)) × (page < length l)) same link)
     (subst (λ (l : List (List ℕ)). bytes ≡ old ++ piece_of (page_at l page)) same read)
 
 pub fault_as : (f : ClaimFault) (P Q : Type 0) → (Q → P) → IsChainFault f P → IsChainFault f Q

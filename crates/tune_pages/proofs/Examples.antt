@@ -1,6 +1,6 @@
 -- The definitions at small cases, worked out by hand.
 use Rattle.std.proofs.Common.{◌≡◌, ℕ, zero, suc, ◌<◌, List, [], ◌∷◌, Bool, true, false, refl, arith}
-use Rattle.tune_pages.specs.Chain.{next_of, size_of, piece_of, IsLink, IsChain}
+use Rattle.tune_pages.specs.Chain.{next_page_of, size_of, piece_of, IsLink, IsChain}
 use Rattle.tune_pages.specs.Faults.{free_pages, pages_for}
 use Rattle.tune_pages.specs.Stand.{IsUsed, IsFree, IsLeastFree, AllFree, marked, placed}
 
@@ -62,8 +62,8 @@ three_pages = refl
 abbrev link : List ℕ
 link = 0 ∷ 0 ∷ 1 ∷ 2 ∷ 0 ∷ 2 ∷ 65 ∷ 66 ∷ 0 ∷ 0 ∷ 0 ∷ []
 
-goes_on : next_of link ≡ 258
-unfolding next_of
+goes_on : next_page_of link ≡ 258
+unfolding next_page_of
 goes_on = refl
 
 has_two : size_of link ≡ 2
@@ -82,8 +82,8 @@ no_link is = let full = is.full (λ e. absurd (omega (arith, e, goes_on))) in ab
 abbrev last : List ℕ
 last = 0 ∷ 0 ∷ 0 ∷ 0 ∷ 0 ∷ 3 ∷ 65 ∷ 66 ∷ 67 ∷ 0 ∷ []
 
-last_next : next_of last ≡ 0
-unfolding next_of
+last_next : next_page_of last ≡ 0
+unfolding next_page_of
 last_next = refl
 
 last_size : size_of last ≡ 3

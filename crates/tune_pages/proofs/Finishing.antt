@@ -10,7 +10,7 @@ use Rattle.tune_pages.proofs.Chains.{length-marked}
 use Rattle.tune_pages.proofs.Overlay.{length-front, front_below, front_behind, marked_other}
 use Rattle.tune_journal.specs.Pages.{pages_after}
 use Rattle.tune_pages.proofs.Puts.{HasImages}
-use Rattle.tune_pages.specs.Work.{front}
+use Rattle.tune_pages.specs.Work.{front_in_use}
 
 pub set_false : (m : List Bool) (p : ℕ) → get_or (set m p false) p false ≡ false
 set_false [] p = refl
@@ -39,22 +39,22 @@ used_below (q ∷ t) m all = All-cons (λ p. p < length m) q t (used_within m q 
 
 pub kept_marks : {D : Type 0} (disk : Option D) (pages : List (List ℕ)) (used : List Bool) (limit : ℕ) (closed : Bool) (n : ℕ) (freed : List ℕ)
     (after : List Bool)
-    → IsKept disk pages used limit closed → n ≤ length used → n ≤ length pages → All (λ p. p ≢ 0) freed → after ≡ marked false freed (front n used)
+    → IsKept disk pages used limit closed → n ≤ length used → n ≤ length pages → All (λ p. p ≢ 0) freed → after ≡ marked false freed (front_in_use n used)
     → IsKept disk pages after limit closed
 kept_marks disk pages used limit closed n freed after kept le few root is = record {
   is_held = kept.is_held;
   least = kept.least;
   most = kept.most;
-  marks = ap (λ (l : List Bool). length l) is ∙ length-marked false freed (front n used) ∙ length-front n used le ∙ kept.marks;
-  root = subst (λ (m : List Bool). IsUsed m 0) (sym is) (marked_other false freed (front n used) 0 false root ∙ front_used 0 kept.root);
-  below = λ still p in_use. front_below_count still p (false_keeps freed (front n used) p (subst (λ (m : List Bool). IsUsed m p) is in_use));
+  marks = ap (λ (l : List Bool). length l) is ∙ length-marked false freed (front_in_use n used) ∙ length-front n used le ∙ kept.marks;
+  root = subst (λ (m : List Bool). IsUsed m 0) (sym is) (marked_other false freed (front_in_use n used) 0 false root ∙ front_used 0 kept.root);
+  below = λ still p in_use. front_below_count still p (false_keeps freed (front_in_use n used) p (subst (λ (m : List Bool). IsUsed m p) is in_use));
   few = kept.few;
 }
   where
-    front_used : (p : ℕ) → IsUsed used p → IsUsed (front n used) p
+    front_used : (p : ℕ) → IsUsed used p → IsUsed (front_in_use n used) p
     front_used p u = elim (cases_lt p n) [ inl low ↦ front_below n used p false low | inr high ↦ front_behind n used p false high ∙ u ]
 
-    front_below_count : closed ≡ false → (p : ℕ) → IsUsed (front n used) p → p < length pages
+    front_below_count : closed ≡ false → (p : ℕ) → IsUsed (front_in_use n used) p → p < length pages
     front_below_count still p u = elim (cases_lt p n) [ inl low ↦ omega arith | inr high ↦ kept.below still p (sym (front_behind n used p false high) ∙ u) ]
 
 -- A work without a change leaves the pages as they are.

@@ -6,7 +6,7 @@ use Rattle.std.proofs.lemmas.List.{get_or-set_same, get_or-set_other, get_or_pas
 use Rattle.std.proofs.lemmas.List.Elements.{All-nil, All-cons, All-head, All-tail, Contains-append_left, Contains-append_right}
 use Rattle.std.proofs.lemmas.Bool.{cases_eq, cases_lt}
 use Rattle.tune_journal.specs.Pages.{page_at}
-use Rattle.tune_pages.specs.Chain.{next_of, size_of, IsLink, Leads}
+use Rattle.tune_pages.specs.Chain.{next_page_of, size_of, IsLink, Leads}
 use Rattle.tune_pages.specs.Stand.{Stand, IsUsed, IsFree, marked, AllFree, AllUsed, HasChain, PutsChain, with_page, taken, without_page, without_pages}
 use Rattle.tune_pages.specs.Frame.{mark_at, InUse, SamePage, Allocates, Frees, Puts, Apart, AllApart, TradesPages}
 use Rattle.tune_pages.proofs.Chains.{SameAlong, bytes_kept}
@@ -39,7 +39,7 @@ leads_stay old new first (p ∷ trail) end same leads =
       leads.1,
       link_within new p link,
       link,
-      subst (λ (q : ℕ). Leads new q trail end) (sym (ap next_of here)) (leads_stay old new (next_of (page_at old p)) trail end (All-tail
+      subst (λ (q : ℕ). Leads new q trail end) (sym (ap next_page_of here)) (leads_stay old new (next_page_of (page_at old p)) trail end (All-tail
           (λ q. page_at new q ≡ page_at old q) p trail same) leads.4),
     )
 
@@ -57,7 +57,7 @@ chain_stays old new first trail bytes images marks has = record {
 
 leads_some : (pages : List (List ℕ)) (first : ℕ) (trail : List ℕ) (end : ℕ) → Leads pages first trail end → All (λ p. p ≢ 0) trail
 leads_some pages first [] end leads = All-nil (λ p. p ≢ 0)
-leads_some pages first (p ∷ trail) end leads = All-cons (λ q. q ≢ 0) p trail (λ is. absurd (omega (arith, is, leads.1))) (leads_some pages (next_of
+leads_some pages first (p ∷ trail) end leads = All-cons (λ q. q ≢ 0) p trail (λ is. absurd (omega (arith, is, leads.1))) (leads_some pages (next_page_of
     (page_at pages p)) trail end leads.4)
 
 -- the root is no page of a chain

@@ -4,7 +4,7 @@ use Rattle.std.proofs.Common.{Result, Ok, Err, IfOk, ap, arith, length-append, l
 use Rattle.std.proofs.lemmas.List.Sums.{sum_by-set}
 use Rattle.tune_journal.specs.FileOffsets.{block_bytes}
 use Rattle.tune_journal.specs.Pages.{page_at}
-use Rattle.tune_pages.specs.Chain.{next_of, size_of, piece_of, IsLink, Leads, bytes_along, IsChain}
+use Rattle.tune_pages.specs.Chain.{next_page_of, size_of, piece_of, IsLink, Leads, bytes_along, IsChain}
 use Rattle.tune_pages.specs.Faults.{AnswersWork, free_pages, pages_for}
 use Rattle.tune_pages.specs.FreePages.{TakesAtMost}
 use Rattle.tune_pages.specs.LinkOffsets.{piece_room}
@@ -48,9 +48,9 @@ along_count pages first (p ∷ []) sized leads =
 along_count pages first (p ∷ q ∷ t) sized leads =
     let image = page_at pages p in
     let whole = piece_length image (sized p [] leads.2) leads.3 in
-    let more = along_count pages (next_of image) (q ∷ t) sized leads.4 in
+    let more = along_count pages (next_page_of image) (q ∷ t) sized leads.4 in
     let all = length-append (piece_of image) (bytes_along pages (q ∷ t)) in
-    let some : next_of image ≢ 0 = λ e. absurd (omega (arith, e, leads.4.0, leads.4.1)) in
+    let some : next_page_of image ≢ 0 = λ e. absurd (omega (arith, e, leads.4.0, leads.4.1)) in
     let full = leads.3.full some in
     (omega (arith, whole, full, all, more.0), omega (arith, whole, full, all, more.1))
 

@@ -7,7 +7,7 @@ use Rattle.std.proofs.lemmas.List.Elements.{All-nil, All-cons, All-head, All-tai
 use Rattle.tune_journal.specs.Pages.{pages_after}
 use Rattle.tune_pages.proofs.Puts.{Rising, HasImages}
 use Rattle.tune_pages.specs.Stand.{Stand, IsUsed, AllUsed, marked, without_page}
-use Rattle.tune_pages.specs.Work.{front, used_in, count_in, stand_on, Falls, FitsOn}
+use Rattle.tune_pages.specs.Work.{front_in_use, used_in, page_count_in, stand_on, Falls, FitsOn}
 use Rattle.tune_pages.specs.Inside.Freed.{IsPutIn}
 use Rattle.tune_pages.specs.declared.work.Work.{Work}
 use Rattle.tune_pages.proofs.Putting.{Apart}
@@ -70,9 +70,9 @@ falls_put (x ∷ f) b p falls above below apart = (
 module _ (pages : List (List ℕ)) (used : List Bool) (w w' : Work) (p : ℕ) (fits : FitsOn pages used w) (is_used : IsUsed (used_in used w) p) (some : 0 < p)
     (ch : w'.changes ≡ w.changes) (fr : w'.frontier ≡ w.frontier) (put : IsPutIn p w.freed.items w'.freed.items) where
   apart : Apart (put.front ++ put.back) p
-  apart = subst (λ (l : List ℕ). Apart l p) put.old_is (not_freed w.freed.items (front w.frontier used) p is_used)
+  apart = subst (λ (l : List ℕ). Apart l p) put.old_is (not_freed w.freed.items (front_in_use w.frontier used) p is_used)
 
-  same_count : count_in pages w' ≡ count_in pages w
+  same_count : page_count_in pages w' ≡ page_count_in pages w
   same_count = ap (λ (n : ℕ). max (length pages) n) fr
 
   pub give_fits : FitsOn pages used w'
@@ -82,34 +82,34 @@ module _ (pages : List (List ℕ)) (used : List Bool) (w w' : Work) (p : ℕ) (f
     within = subst (λ (n : ℕ). n ≤ length used) (sym fr) fits.within;
     rising = subst Rising (sym ch) fits.rising;
     below = subst (λ (n : ℕ). All (λ e. e.0 < n) w'.changes) (sym same_count)
-        (subst (λ (cs : List (ℕ × List ℕ)). All (λ e. e.0 < count_in pages w) cs) (sym ch) fits.below);
+        (subst (λ (cs : List (ℕ × List ℕ)). All (λ e. e.0 < page_count_in pages w) cs) (sym ch) fits.below);
     names = subst (λ (n : ℕ). HasImages (length pages) n w'.changes) (sym same_count)
-        (subst (λ (cs : List (ℕ × List ℕ)). HasImages (length pages) (count_in pages w) cs) (sym ch) fits.names);
+        (subst (λ (cs : List (ℕ × List ℕ)). HasImages (length pages) (page_count_in pages w) cs) (sym ch) fits.names);
     falls = subst Falls (sym put.new_is) (falls_put put.front put.back p (subst Falls put.old_is fits.falls) put.above put.below apart);
-    freed = subst (λ (n : ℕ). AllUsed w'.freed.items (front n used)) (sym fr)
-        (subst (λ (l : List ℕ). AllUsed l (front w.frontier used)) (sym put.new_is)
-        (used_put put.front put.back (front w.frontier used) p apart (false_keeps w.freed.items (front w.frontier used) p is_used)
-        (subst (λ (l : List ℕ). AllUsed l (front w.frontier used)) put.old_is fits.freed)));
+    freed = subst (λ (n : ℕ). AllUsed w'.freed.items (front_in_use n used)) (sym fr)
+        (subst (λ (l : List ℕ). AllUsed l (front_in_use w.frontier used)) (sym put.new_is)
+        (used_put put.front put.back (front_in_use w.frontier used) p apart (false_keeps w.freed.items (front_in_use w.frontier used) p is_used)
+        (subst (λ (l : List ℕ). AllUsed l (front_in_use w.frontier used)) put.old_is fits.freed)));
     no_root = subst (All (λ q. q ≢ 0)) (sym put.new_is)
         (all_put (λ q. q ≢ 0) put.front put.back p (subst (All (λ q. q ≢ 0)) put.old_is fits.no_root) (λ is. absurd (omega (arith, is, some))));
   }
 
   give_used : used_in used w' ≡ set (used_in used w) p false
   give_used =
-      ap (λ (n : ℕ). marked false w'.freed.items (front n used)) fr
-      ∙ ap (λ (l : List ℕ). marked false l (front w.frontier used)) put.new_is
-      ∙ marked_put put.front put.back (front w.frontier used) p apart
-      ∙ ap (λ (l : List ℕ). set (marked false l (front w.frontier used)) p false) (sym put.old_is)
+      ap (λ (n : ℕ). marked false w'.freed.items (front_in_use n used)) fr
+      ∙ ap (λ (l : List ℕ). marked false l (front_in_use w.frontier used)) put.new_is
+      ∙ marked_put put.front put.back (front_in_use w.frontier used) p apart
+      ∙ ap (λ (l : List ℕ). set (marked false l (front_in_use w.frontier used)) p false) (sym put.old_is)
 
-  give_pages : pages_after pages (count_in pages w') w'.changes ≡ pages_after pages (count_in pages w) w.changes
-  give_pages = ap (λ (n : ℕ). pages_after pages n w'.changes) same_count ∙ ap (λ (cs : List (ℕ × List ℕ)). pages_after pages (count_in pages w) cs) ch
+  give_pages : pages_after pages (page_count_in pages w') w'.changes ≡ pages_after pages (page_count_in pages w) w.changes
+  give_pages = ap (λ (n : ℕ). pages_after pages n w'.changes) same_count ∙ ap (λ (cs : List (ℕ × List ℕ)). pages_after pages (page_count_in pages w) cs) ch
 
   abbrev made : List (List ℕ) → List Bool → Stand
   made x y = record { pages = x; used = y }
 
   pub give_stand : stand_on pages used w' ≡ without_page p (stand_on pages used w)
   unfolding stand_on
-  give_stand = ap (λ (x : List (List ℕ)). made x (used_in used w')) give_pages ∙ ap (made (pages_after pages (count_in pages w) w.changes)) give_used
+  give_stand = ap (λ (x : List (List ℕ)). made x (used_in used w')) give_pages ∙ ap (made (pages_after pages (page_count_in pages w) w.changes)) give_used
 
 -- An insertion at the place that was found.
 pub put_in : (old seen new : List ℕ) (at p : ℕ) → seen ≡ old → new ≡ insert old at p → at ≤ length seen

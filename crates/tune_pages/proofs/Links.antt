@@ -4,8 +4,8 @@ use Rattle.std.proofs.Common.{arith, append_assoc, length-append}
 use Rattle.std.proofs.lemmas.List.{take_at, drop_at, drop-drop}
 use Rattle.byteorder.specs.Endian.{big_bytes, big_number}
 use Rattle.byteorder.specs.Numbers.{big_number-reads_back}
-use Rattle.tune_journal.specs.ChangeList.{padded}
-use Rattle.tune_pages.specs.Chain.{next_of, size_of, piece_of, IsLink, IsPadded}
+use Rattle.tune_journal.specs.ChangeList.{padded_image}
+use Rattle.tune_pages.specs.Chain.{next_page_of, size_of, piece_of, IsLink, IsPadded}
 use Rattle.tune_pages.specs.Inside.Link.{link_bytes}
 
 module _ (next : ℕ) (piece : List ℕ) (fits : next < 2 ^ 32) (few : length piece ≤ 4090) where
@@ -19,8 +19,8 @@ module _ (next : ℕ) (piece : List ℕ) (fits : next < 2 ^ 32) (few : length pi
   behind : drop 4 (link_bytes next piece) ≡ big_bytes 2 (length piece) ++ (piece ++ rest)
   behind = ap (λ (l : List ℕ). drop 4 l) parts ∙ drop_at (big_bytes 4 next) (big_bytes 2 (length piece) ++ (piece ++ rest)) 4 refl
 
-  pub next_of-link : next_of (link_bytes next piece) ≡ next
-  unfolding next_of
+  pub next_of-link : next_page_of (link_bytes next piece) ≡ next
+  unfolding next_page_of
   next_of-link = ap (big_number 4) parts ∙ big_number-reads_back 4 next (big_bytes 2 (length piece) ++ (piece ++ rest)) fits
 
   pub size_of-link : size_of (link_bytes next piece) ≡ length piece
@@ -55,9 +55,9 @@ module _ (next : ℕ) (piece : List ℕ) (fits : next < 2 ^ 32) (few : length pi
   }
 
 pub link_full : (next : ℕ) (piece image : List ℕ) → next < 2 ^ 32 → length piece ≡ 4090 → image ≡ link_bytes next piece
-    → IsLink image × (next_of image ≡ next) × (piece_of image ≡ piece) × IsPadded image
+    → IsLink image × (next_page_of image ≡ next) × (piece_of image ≡ piece) × IsPadded image
 link_full next piece image fits size is =
-    subst (λ (i : List ℕ). IsLink i × (next_of i ≡ next) × (piece_of i ≡ piece) × IsPadded i) (sym is) (
+    subst (λ (i : List ℕ). IsLink i × (next_page_of i ≡ next) × (piece_of i ≡ piece) × IsPadded i) (sym is) (
       link_is next piece fits (omega arith) (omega arith) (λ ne. size),
       next_of-link next piece fits (omega arith),
       piece_of-link next piece fits (omega arith),
@@ -65,9 +65,9 @@ link_full next piece image fits size is =
     )
 
 pub link_last : (piece image : List ℕ) → 0 < length piece → length piece ≤ 4090 → image ≡ link_bytes 0 piece
-    → IsLink image × (next_of image ≡ 0) × (piece_of image ≡ piece) × IsPadded image
+    → IsLink image × (next_page_of image ≡ 0) × (piece_of image ≡ piece) × IsPadded image
 link_last piece image some few is =
-    subst (λ (i : List ℕ). IsLink i × (next_of i ≡ 0) × (piece_of i ≡ piece) × IsPadded i) (sym is) (
+    subst (λ (i : List ℕ). IsLink i × (next_page_of i ≡ 0) × (piece_of i ≡ piece) × IsPadded i) (sym is) (
       link_is 0 piece (omega arith) few some (λ ne. absurd (ne refl)),
       next_of-link 0 piece (omega arith) few,
       piece_of-link 0 piece
@@ -76,7 +76,7 @@ link_last piece image some few is =
     )
 
 -- a page that ends a chain, by its bytes alone, with zeros behind them
-pub link_padded : (head piece : List ℕ) → head ≡ big_bytes 4 0 ++ big_bytes 2 (length piece) → padded (head ++ piece) ≡ link_bytes 0 piece
+pub link_padded : (head piece : List ℕ) → head ≡ big_bytes 4 0 ++ big_bytes 2 (length piece) → padded_image (head ++ piece) ≡ link_bytes 0 piece
 unfolding link_bytes
 link_padded head piece is_head =
     let size : length head ≡ 6 = ap length is_head in

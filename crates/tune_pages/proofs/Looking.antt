@@ -6,7 +6,7 @@ use Rattle.tune_pages.specs.Faults.{CountsFaultWhere}
 use Rattle.tune_pages.specs.Kept.{Kept, HonestAt, state_at, failures_at}
 use Rattle.tune_pages.specs.PageLooks.{SameKept, LooksAt, SameStand}
 use Rattle.tune_pages.specs.Stand.{Stand}
-use Rattle.tune_pages.specs.Work.{front, used_in, count_in, stand_on, stand, FitsOn, Fits}
+use Rattle.tune_pages.specs.Work.{front_in_use, used_in, page_count_in, stand_on, stand, FitsOn, Fits}
 use Rattle.tune_pages.specs.declared.fault.Fault.{Fault}
 use Rattle.tune_pages.specs.declared.fault.Fault.TheVariants.{FileFull, OutOfMemory, Device, Closed}
 use Rattle.tune_pages.specs.declared.work.Work.{Work}
@@ -29,15 +29,16 @@ fits_same old new used used' w size is fits = subst (λ (m : List Bool). FitsOn 
   no_root = fits.no_root;
 })
   where
-    count : count_in new w ≡ count_in old w
+    count : page_count_in new w ≡ page_count_in old w
     count = ap (λ (n : ℕ). max n w.frontier) size
 
-pub stand_count : (pages : List (List ℕ)) (used : List Bool) (w : Work) → length (stand_on pages used w).pages ≡ count_in pages w
-stand_count pages used w = ap (λ (l : List (List ℕ)). length l) (stand_pages pages used w) ∙ length-pages_after pages (count_in pages w) w.changes (omega arith)
+pub stand_count : (pages : List (List ℕ)) (used : List Bool) (w : Work) → length (stand_on pages used w).pages ≡ page_count_in pages w
+stand_count pages used w = ap (λ (l : List (List ℕ)). length l) (stand_pages pages used w)
+    ∙ length-pages_after pages (page_count_in pages w) w.changes (omega arith)
 
 -- a work has a mark for each page up to the limit
 pub stand_marks : (pages : List (List ℕ)) (used : List Bool) (w : Work) → FitsOn pages used w → length (stand_on pages used w).used ≡ length used
-stand_marks pages used w fits = ap (λ (l : List Bool). length l) (stand_used pages used w) ∙ length-marked false w.freed.items (front w.frontier used)
+stand_marks pages used w fits = ap (λ (l : List Bool). length l) (stand_used pages used w) ∙ length-marked false w.freed.items (front_in_use w.frontier used)
     ∙ length-front w.frontier used fits.within
 
 module _ {D : Type 0} (honest : D → Type 0) where

@@ -6,17 +6,17 @@ use Rattle.std.proofs.lemmas.List.{get_or-replicate, get_or-drop, length-replica
 use Rattle.std.proofs.lemmas.List.Elements.{All-tail}
 use Rattle.std.proofs.lemmas.Bool.{cases_eq, cases_lt}
 use Rattle.tune_pages.specs.Stand.{IsUsed, marked}
-use Rattle.tune_pages.specs.Work.{front}
+use Rattle.tune_pages.specs.Work.{front_in_use}
 use Rattle.tune_pages.proofs.Putting.{Apart}
 use Rattle.tune_pages.proofs.Chains.{marked_more}
 
-pub length-front : (n : ℕ) (used : List Bool) → n ≤ length used → length (front n used) ≡ length used
+pub length-front : (n : ℕ) (used : List Bool) → n ≤ length used → length (front_in_use n used) ≡ length used
 length-front n used le = omega (arith, length-append (replicate n true) (drop n used), length-replicate {A = Bool}, length-drop n used)
 
-pub front_below : (n : ℕ) (used : List Bool) (q : ℕ) (d : Bool) → q < n → get_or (front n used) q d ≡ true
+pub front_below : (n : ℕ) (used : List Bool) (q : ℕ) (d : Bool) → q < n → get_or (front_in_use n used) q d ≡ true
 front_below n used q d lt = get_or_append_left (replicate n true) (drop n used) d q (omega (arith, length-replicate n true)) ∙ get_or-replicate n q true d lt
 
-pub front_behind : (n : ℕ) (used : List Bool) (q : ℕ) (d : Bool) → n ≤ q → get_or (front n used) q d ≡ get_or used q d
+pub front_behind : (n : ℕ) (used : List Bool) (q : ℕ) (d : Bool) → n ≤ q → get_or (front_in_use n used) q d ≡ get_or used q d
 front_behind n used q d le = get_or-append_right (replicate n true) (drop n used) n q d (length-replicate n true) le ∙ get_or-drop n used (q - n) d
     ∙ ap (λ (i : ℕ). get_or used i d) (omega arith)
 
@@ -37,15 +37,15 @@ marked_other b (q ∷ t) m p d apart = marked_other b t (set m q b) p d (All-tai
 
 -- The frontier moves past pages in use, and past one more.
 pub front_on : (n p : ℕ) (used : List Bool) → n ≤ p → p < length used → ((q : ℕ) → n ≤ q → q < p → IsUsed used q)
-    → front (p + 1) used ≡ set (front n used) p true
-front_on n p used le lt full = same_lists (front (p + 1) used) (set (front n used) p true) (length-front (p + 1) used (omega arith)
-    ∙ sym (length-set (front n used) p true ∙ length-front n used (omega arith)))
+    → front_in_use (p + 1) used ≡ set (front_in_use n used) p true
+front_on n p used le lt full = same_lists (front_in_use (p + 1) used) (set (front_in_use n used) p true) (length-front (p + 1) used (omega arith)
+    ∙ sym (length-set (front_in_use n used) p true ∙ length-front n used (omega arith)))
     (λ q d lt'. each q d (omega (arith, length-front (p + 1) used (omega arith))))
   where
     in_use : (q : ℕ) (d : Bool) → n ≤ q → q < p → get_or used q d ≡ true
     in_use q d le' lt' = get_or_default_same used q d false (omega arith) ∙ full q le' lt'
 
-    other : (q : ℕ) (d : Bool) → q < length used → q ≢ p → get_or (front (p + 1) used) q d ≡ get_or (front n used) q d
+    other : (q : ℕ) (d : Bool) → q < length used → q ≢ p → get_or (front_in_use (p + 1) used) q d ≡ get_or (front_in_use n used) q d
     other q d lt' ne = elim (cases_lt q p) [
       | inl below ↦ elim (cases_lt q n) [
         | inl low ↦ front_below (p + 1) used q d (omega arith) ∙ sym (front_below n used q d low)
@@ -54,12 +54,12 @@ front_on n p used le lt full = same_lists (front (p + 1) used) (set (front n use
       | inr above ↦ front_behind (p + 1) used q d (omega arith) ∙ sym (front_behind n used q d (omega arith))
     ]
 
-    each : (q : ℕ) (d : Bool) → q < length used → get_or (front (p + 1) used) q d ≡ get_or (set (front n used) p true) q d
+    each : (q : ℕ) (d : Bool) → q < length used → get_or (front_in_use (p + 1) used) q d ≡ get_or (set (front_in_use n used) p true) q d
     each q d lt' = elim (cases_eq q p) [
       | inl here ↦ front_below (p + 1) used q d (omega arith)
-          ∙ sym (ap (λ (i : ℕ). get_or (set (front n used) p true) i d) here
-          ∙ get_or-set_same (front n used) p true d (omega (arith, length-front n used (omega arith))))
-      | inr ne ↦ other q d lt' ne ∙ sym (get_or-set_other (front n used) p q true d ne)
+          ∙ sym (ap (λ (i : ℕ). get_or (set (front_in_use n used) p true) i d) here
+          ∙ get_or-set_same (front_in_use n used) p true d (omega (arith, length-front n used (omega arith))))
+      | inr ne ↦ other q d lt' ne ∙ sym (get_or-set_other (front_in_use n used) p q true d ne)
     ]
 
 pub set_apart : (m : List Bool) (p q : ℕ) (a b : Bool) → p ≢ q → set (set m p a) q b ≡ set (set m q b) p a
@@ -78,20 +78,21 @@ marked_apart b (q ∷ t) m p c apart =
 
 -- ALLOCATING AT THE FRONTIER.
 pub use_next : (freed : List ℕ) (n p : ℕ) (used : List Bool) → n ≤ p → p < length used → ((q : ℕ) → n ≤ q → q < p → IsUsed used q) → Apart freed p
-    → marked false freed (front (p + 1) used) ≡ set (marked false freed (front n used)) p true
+    → marked false freed (front_in_use (p + 1) used) ≡ set (marked false freed (front_in_use n used)) p true
 use_next freed n p used le lt full apart = ap (λ (l : List Bool). marked false freed l) (front_on n p used le lt full)
-    ∙ marked_apart false freed (front n used) p true apart
+    ∙ marked_apart false freed (front_in_use n used) p true apart
 
 -- ALLOCATING A FREED PAGE, the last of the list.
 pub use_freed : (freed : List ℕ) (n p : ℕ) (used : List Bool) → n ≤ p → p < length used → ((q : ℕ) → n ≤ q → q < p → IsUsed used q) → Apart freed p
-    → marked false freed (front (p + 1) used) ≡ set (marked false (freed ++ p ∷ []) (front n used)) p true
+    → marked false freed (front_in_use (p + 1) used) ≡ set (marked false (freed ++ p ∷ []) (front_in_use n used)) p true
 use_freed freed n p used le lt full apart = use_next freed n p used le lt full apart
-    ∙ sym (ap (λ (l : List Bool). set l p true) (marked_more false freed p (front n used)) ∙ set_set (marked false freed (front n used)) p false true)
+    ∙ sym (ap (λ (l : List Bool). set l p true) (marked_more false freed p (front_in_use n used))
+    ∙ set_set (marked false freed (front_in_use n used)) p false true)
 
 -- WHICH PAGE IS THE LEAST FREE: no freed page is below it, and all of the table up to it is in use.
 pub use_below : (freed : List ℕ) (n p : ℕ) (used : List Bool) (q : ℕ) → ((q : ℕ) → n ≤ q → q < p → IsUsed used q) → q < p → Apart freed q
-    → IsUsed (marked false freed (front n used)) q
-use_below freed n p used q full lt apart = marked_other false freed (front n used) q false apart ∙ elim (cases_lt q n) [
+    → IsUsed (marked false freed (front_in_use n used)) q
+use_below freed n p used q full lt apart = marked_other false freed (front_in_use n used) q false apart ∙ elim (cases_lt q n) [
   | inl low ↦ front_below n used q false low
   | inr high ↦ front_behind n used q false high ∙ full q high lt
 ]
@@ -103,7 +104,7 @@ same_set (x ∷ m) (suc p) used = ap (λ (l : List Bool). x ∷ l) (same_set m p
 
 -- ALLOCATING A FREED PAGE below the frontier, which stays.
 pub use_low : (freed : List ℕ) (n p : ℕ) (used : List Bool) → p < n → Apart freed p
-    → marked false freed (front n used) ≡ set (marked false (freed ++ p ∷ []) (front n used)) p true
-use_low freed n p used lt apart = sym (ap (λ (l : List Bool). set l p true) (marked_more false freed p (front n used))
-    ∙ set_set (marked false freed (front n used)) p false true
-    ∙ same_set (marked false freed (front n used)) p (marked_other false freed (front n used) p false apart ∙ front_below n used p false lt))
+    → marked false freed (front_in_use n used) ≡ set (marked false (freed ++ p ∷ []) (front_in_use n used)) p true
+use_low freed n p used lt apart = sym (ap (λ (l : List Bool). set l p true) (marked_more false freed p (front_in_use n used))
+    ∙ set_set (marked false freed (front_in_use n used)) p false true
+    ∙ same_set (marked false freed (front_in_use n used)) p (marked_other false freed (front_in_use n used) p false apart ∙ front_below n used p false lt))

@@ -6,7 +6,7 @@ use Rattle.std.proofs.lemmas.List.{length-append}
 use Rattle.std.proofs.lemmas.List.Elements.{All-tail, All-nil, All-cons, All-push}
 use Rattle.std.proofs.lemmas.Bool.{cases_eq, cases_lt}
 use Rattle.tune_journal.specs.Pages.{page_at}
-use Rattle.tune_pages.specs.Chain.{next_of, piece_of, IsLink, Leads, bytes_along, IsPadded, ArePadded}
+use Rattle.tune_pages.specs.Chain.{next_page_of, piece_of, IsLink, Leads, bytes_along, IsPadded, ArePadded}
 use Rattle.tune_pages.specs.LinkOffsets.{piece_room}
 use Rattle.tune_pages.specs.Stand.{Stand, IsUsed, IsFree, IsLeastFree, AllLeastFree, marked, AllFree, KeepsOthers, PutsChain, placed}
 use Rattle.tune_pages.specs.Stand.{with_page, taken, taken_with}
@@ -55,7 +55,7 @@ used_apart (q ∷ t) m p free is = All-cons (λ q. q ≢ p) q t
 
 pub leads_below : (pages : List (List ℕ)) (first : ℕ) (t : List ℕ) (end : ℕ) → Leads pages first t end → All (λ p. p < length pages) t
 leads_below pages first [] end leads = All-nil (λ p. p < length pages)
-leads_below pages first (p ∷ t) end leads = All-cons (λ p. p < length pages) p t leads.2 (leads_below pages (next_of (page_at pages p)) t end leads.4)
+leads_below pages first (p ∷ t) end leads = All-cons (λ p. p < length pages) p t leads.2 (leads_below pages (next_page_of (page_at pages p)) t end leads.4)
 
 -- A chain is being laid: it has come to this page, which is taken and still to be written.
 pub record Laid (old now : Stand) (first page : ℕ) (done : List ℕ) : Type 0 where
@@ -84,7 +84,7 @@ swap_apart t p apart = λ k d lt. All-cons (λ q. q ≢ get_or t k d) p [] (λ i
 
 -- The page that was come to is written; then the trail has it too.
 pub record Wrote (P Q : List (List ℕ)) (first page : ℕ) (trail image : List ℕ) : Type 0 where
-  pub leads : Leads Q first (trail ++ page ∷ []) (next_of image)
+  pub leads : Leads Q first (trail ++ page ∷ []) (next_page_of image)
   pub read : bytes_along Q (trail ++ page ∷ []) ≡ bytes_along P trail ++ piece_of image
   pub padded : ArePadded Q (trail ++ page ∷ [])
 
@@ -95,7 +95,7 @@ wrote P Q first page trail image x leads some within keeps apart here link padde
     let same : SameAlong trail P Q = same_along x trail P Q keeps apart in
     let kept : Leads Q first trail page = leads_kept P Q first trail page keeps.longer same leads in
     record {
-      leads = subst (λ (i : List ℕ). Leads Q first (trail ++ page ∷ []) (next_of i)) here
+      leads = subst (λ (i : List ℕ). Leads Q first (trail ++ page ∷ []) (next_page_of i)) here
           (leads_more Q first trail page kept some within (subst IsLink (sym here) link));
       read = bytes_more Q trail page ∙ ap (λ (b : List ℕ). b ++ piece_of (page_at Q page)) (bytes_kept P Q trail same)
           ∙ ap (λ (i : List ℕ). bytes_along P trail ++ piece_of i) here;
@@ -141,7 +141,7 @@ least_more (q ∷ t) p m all free = (all.0, least_more t p (set m q true) all.1 
 -- one page on
 pub laid_more : (old now : Stand) (first page next : ℕ) (done image : List ℕ) (one two : Stand) → Laid old now first page done
     → one ≡ taken next now → two ≡ with_page page image one → IsLeastFree now.used next → 0 < next → next ≤ length now.pages
-    → IsLink image → next_of image ≡ next → length (piece_of image) ≡ piece_room → IsPadded image
+    → IsLink image → next_page_of image ≡ next → length (piece_of image) ≡ piece_room → IsPadded image
     → Laid old two first next (done ++ piece_of image)
 laid_more old now first page next done image one two laid is_one is_two free_next some le link goes whole is_padded = record {
   trail = trail';
@@ -216,7 +216,7 @@ laid_more old now first page next done image one two laid is_one is_two free_nex
 
 -- the last page
 pub laid_end : (old now : Stand) (first page : ℕ) (done image bytes : List ℕ) (two : Stand) → Laid old now first page done
-    → two ≡ with_page page image now → IsLink image → next_of image ≡ 0 → done ++ piece_of image ≡ bytes → IsPadded image
+    → two ≡ with_page page image now → IsLink image → next_page_of image ≡ 0 → done ++ piece_of image ≡ bytes → IsPadded image
     → 0 < length (piece_of image) → length (piece_of image) ≤ piece_room
     → (trail : List ℕ) × PutsChain old two first trail bytes
 laid_end old now first page done image bytes two laid is link goes whole is_padded some few = (
@@ -306,7 +306,7 @@ taken_used old now one first page next done laid is = subst (λ (s : Stand). IsU
 
 -- A chain of one page.
 pub laid_alone : (old now : Stand) (page : ℕ) (image bytes : List ℕ) → now ≡ taken_with page image old → IsLeastFree old.used page → 0 < page
-    → page ≤ length old.pages → IsLink image → next_of image ≡ 0 → piece_of image ≡ bytes → IsPadded image
+    → page ≤ length old.pages → IsLink image → next_page_of image ≡ 0 → piece_of image ≡ bytes → IsPadded image
     → 0 < length bytes → length bytes ≤ piece_room → (trail : List ℕ) × PutsChain old now page trail bytes
 laid_alone old now page image bytes is least some le link ends holds is_padded has few = (
   page ∷ [],
@@ -317,7 +317,7 @@ laid_alone old now page image bytes is least some le link ends holds is_padded h
         some,
         omega (arith, size),
         subst IsLink (sym here) link,
-        ap next_of here ∙ ends,
+        ap next_page_of here ∙ ends,
       );
       holds = append-nil (piece_of (page_at now.pages page)) ∙ ap piece_of here ∙ holds;
     };

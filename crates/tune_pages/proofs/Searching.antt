@@ -5,7 +5,7 @@ use Rattle.std.proofs.lemmas.List.{get_or-set_same}
 use Rattle.std.proofs.lemmas.List.Elements.{All-nil, All-cons, All-head, All-tail}
 use Rattle.std.proofs.lemmas.Bool.{cases_eq, cases_lt}
 use Rattle.tune_pages.specs.Stand.{IsUsed, IsFree, IsFull, marked}
-use Rattle.tune_pages.specs.Work.{front, used_in, Falls, FitsOn}
+use Rattle.tune_pages.specs.Work.{front_in_use, used_in, Falls, FitsOn}
 use Rattle.tune_pages.specs.Inside.NextFree.{IsNextFree}
 use Rattle.tune_pages.specs.Inside.Freed.{IsEnd}
 use Rattle.tune_pages.specs.declared.work.Work.{Work}
@@ -41,18 +41,20 @@ module _ (pages : List (List ℕ)) (used : List Bool) (w : Work) (limit end : �
   pub end_within : end ≤ limit
   end_within = elim ends [
     | inl none ↦ omega (arith, none.1)
-    | inr last ↦ (let below = used_below w.freed.items (front w.frontier used) fits.freed in
-        let at_end = last_of (λ (q : ℕ). q < length (front w.frontier used)) last.0 end (subst (All (λ q. q < length (front w.frontier used))) last.1 below) in
+    | inr last ↦ (let below = used_below w.freed.items (front_in_use w.frontier used) fits.freed in
+        let at_end = last_of (λ (q : ℕ). q < length (front_in_use w.frontier used)) last.0 end
+        (subst (All (λ q. q < length (front_in_use w.frontier used))) last.1 below) in
         omega (arith, at_end, size, length-front w.frontier used fits.within))
   ]
 
   pub end_free : end < limit → IsFree (used_in used w) end
   end_free lt = elim ends [
     | inl none ↦ absurd (omega (arith, none.1, lt))
-    | inr last ↦ (let m : List Bool = marked false last.0 (front w.frontier used) in
-        let long : end < length m = omega (arith, lt, size, length-marked false last.0 (front w.frontier used), length-front w.frontier used fits.within) in
-        ap (λ (l : List ℕ). get_or (marked false l (front w.frontier used)) end true) last.1
-        ∙ ap (λ (l : List Bool). get_or l end true) (marked_more false last.0 end (front w.frontier used)) ∙ get_or-set_same m end false true long)
+    | inr last ↦ (let m : List Bool = marked false last.0 (front_in_use w.frontier used) in
+        let long : end < length m = omega
+        (arith, lt, size, length-marked false last.0 (front_in_use w.frontier used), length-front w.frontier used fits.within) in
+        ap (λ (l : List ℕ). get_or (marked false l (front_in_use w.frontier used)) end true) last.1
+        ∙ ap (λ (l : List Bool). get_or l end true) (marked_more false last.0 end (front_in_use w.frontier used)) ∙ get_or-set_same m end false true long)
   ]
 
   module _ (page : ℕ) (low : min w.frontier end ≤ page) (high : page ≤ end) (full : (q : ℕ) → min w.frontier end ≤ q → q < page
@@ -69,7 +71,7 @@ module _ (pages : List (List ℕ)) (used : List Bool) (w : Work) (limit end : �
     free_here : page < limit → IsFree (used_in used w) page
     free_here lt = elim (cases_lt page end) [
       | inl before ↦ (let apart : Apart w.freed.items page = λ k d lt'. (let a = from_end k d lt' in λ is. absurd (omega (arith, a, before, is))) in
-          marked_other false w.freed.items (front w.frontier used) page true apart ∙ front_behind w.frontier used page true (omega (arith, low, before))
+          marked_other false w.freed.items (front_in_use w.frontier used) page true apart ∙ front_behind w.frontier used page true (omega (arith, low, before))
           ∙ free before)
       | inr at_end ↦ (let same : end ≡ page = omega (arith, at_end, high) in
           subst (λ (p : ℕ). IsFree (used_in used w) p) same (end_free (omega (arith, lt, same))))
@@ -84,14 +86,14 @@ module _ (pages : List (List ℕ)) (used : List Bool) (w : Work) (limit end : �
 
     pub none_is : limit ≤ page → IsFull (used_in used w)
     none_is ge = elim ends [
-      | inl none ↦ subst (λ (l : List ℕ). IsFull (marked false l (front w.frontier used))) (sym none.0) (λ k d lt. each k d lt)
-      | inr last ↦ (let below = used_below w.freed.items (front w.frontier used) fits.freed in
-          let at_end = last_of (λ (q : ℕ). q < length (front w.frontier used)) last.0 end
-          (subst (All (λ q. q < length (front w.frontier used))) last.1 below) in
+      | inl none ↦ subst (λ (l : List ℕ). IsFull (marked false l (front_in_use w.frontier used))) (sym none.0) (λ k d lt. each k d lt)
+      | inr last ↦ (let below = used_below w.freed.items (front_in_use w.frontier used) fits.freed in
+          let at_end = last_of (λ (q : ℕ). q < length (front_in_use w.frontier used)) last.0 end
+          (subst (All (λ q. q < length (front_in_use w.frontier used))) last.1 below) in
           absurd (omega (arith, at_end, size, length-front w.frontier used fits.within, ge, high)))
     ]
       where
-        each : (k : ℕ) (d : Bool) → k < length (front w.frontier used) → get_or (front w.frontier used) k d ≡ true
+        each : (k : ℕ) (d : Bool) → k < length (front_in_use w.frontier used) → get_or (front_in_use w.frontier used) k d ≡ true
         each k d lt = elim (cases_lt k w.frontier) [
           | inl lo ↦ front_below w.frontier used k d lo
           | inr hi ↦ (let in_used : k < length used = omega (arith, lt, length-front w.frontier used fits.within) in
@@ -110,10 +112,10 @@ kept_facts disk pages used limit closed kept shut = record { below = kept.below 
 
 pub free_in : (pages : List (List ℕ)) (used : List Bool) (w : Work) (p : ℕ) → FitsOn pages used w → IsFree (used_in used w) p → p < length used
 free_in pages used w p fits free = omega
-    (arith, free_within (used_in used w) p free, length-marked false w.freed.items (front w.frontier used), length-front w.frontier used fits.within)
+    (arith, free_within (used_in used w) p free, length-marked false w.freed.items (front_in_use w.frontier used), length-front w.frontier used fits.within)
 
 root_used : (pages : List (List ℕ)) (used : List Bool) (w : Work) → FitsOn pages used w → IsUsed used 0 → IsUsed (used_in used w) 0
-root_used pages used w fits root = marked_other false w.freed.items (front w.frontier used) 0 false fits.no_root ∙ elim (cases_lt 0 w.frontier) [
+root_used pages used w fits root = marked_other false w.freed.items (front_in_use w.frontier used) 0 false fits.no_root ∙ elim (cases_lt 0 w.frontier) [
   | inl lo ↦ front_below w.frontier used 0 false lo
   | inr hi ↦ front_behind w.frontier used 0 false hi ∙ root
 ]

@@ -8,7 +8,7 @@ use Rattle.tune_journal.specs.ChangeList.{with_change}
 use Rattle.tune_journal.specs.Pages.{pages_after}
 use Rattle.tune_journal.proofs.Puts.{below_with, below_more}
 use Rattle.tune_pages.specs.Stand.{Stand, IsUsed, AllUsed, marked, placed, with_page, taken_with}
-use Rattle.tune_pages.specs.Work.{front, used_in, count_in, stand_on, Falls, FitsOn}
+use Rattle.tune_pages.specs.Work.{front_in_use, used_in, page_count_in, stand_on, Falls, FitsOn}
 use Rattle.tune_pages.specs.Inside.NextFree.{IsNextFree}
 use Rattle.tune_pages.specs.Inside.Freed.{Unfrees}
 use Rattle.tune_pages.specs.declared.work.Work.{Work}
@@ -27,26 +27,26 @@ pub stand_used : (pages : List (List ℕ)) (used : List Bool) (w : Work) → (st
 unfolding stand_on
 stand_used pages used w = refl
 
-pub stand_pages : (pages : List (List ℕ)) (used : List Bool) (w : Work) → (stand_on pages used w).pages ≡ pages_after pages (count_in pages w) w.changes
+pub stand_pages : (pages : List (List ℕ)) (used : List Bool) (w : Work) → (stand_on pages used w).pages ≡ pages_after pages (page_count_in pages w) w.changes
 unfolding stand_on
 stand_pages pages used w = refl
 
 -- a page in use is one of the pages
-pub in_count : (pages : List (List ℕ)) (used : List Bool) (w : Work) (p : ℕ) → Below used pages → IsUsed (used_in used w) p → p < count_in pages w
+pub in_count : (pages : List (List ℕ)) (used : List Bool) (w : Work) (p : ℕ) → Below used pages → IsUsed (used_in used w) p → p < page_count_in pages w
 in_count pages used w p below is =
-    let here = false_keeps w.freed.items (front w.frontier used) p is in
+    let here = false_keeps w.freed.items (front_in_use w.frontier used) p is in
     elim (cases_lt p w.frontier) [
       | inl lt ↦ omega (arith, lt)
       | inr ge ↦ (let old = below p (sym (front_behind w.frontier used p false ge) ∙ here) in omega (arith, old))
     ]
 
 -- PUTTING
-module _ (pages : List (List ℕ)) (used : List Bool) (w w' : Work) (p : ℕ) (i : List ℕ) (fits : FitsOn pages used w) (lt : p < count_in pages w)
+module _ (pages : List (List ℕ)) (used : List Bool) (w w' : Work) (p : ℕ) (i : List ℕ) (fits : FitsOn pages used w) (lt : p < page_count_in pages w)
     (ch : w'.changes ≡ with_change p i w.changes) (fr : w'.frontier ≡ w.frontier) (fd : w'.freed.items ≡ w.freed.items) where
   abbrev pub m : ℕ
-  m = count_in pages w
+  m = page_count_in pages w
 
-  same_count : count_in pages w' ≡ m
+  same_count : page_count_in pages w' ≡ m
   same_count = ap (λ (n : ℕ). max (length pages) n) fr
 
   le : length pages ≤ m
@@ -67,18 +67,19 @@ module _ (pages : List (List ℕ)) (used : List Bool) (w w' : Work) (p : ℕ) (i
         (subst (λ (cs : List (ℕ × List ℕ)). HasImages (length pages) m cs) (sym ch)
         (images_with (length pages) m m p i w.changes (omega (arith, lt)) no_more fits.names));
     falls = subst Falls (sym fd) fits.falls;
-    freed = subst (λ (n : ℕ). AllUsed w'.freed.items (front n used)) (sym fr) (subst (λ (l : List ℕ). AllUsed l (front w.frontier used)) (sym fd) fits.freed);
+    freed = subst (λ (n : ℕ). AllUsed w'.freed.items (front_in_use n used)) (sym fr)
+        (subst (λ (l : List ℕ). AllUsed l (front_in_use w.frontier used)) (sym fd) fits.freed);
     no_root = subst (λ (l : List ℕ). All (λ q. q ≢ 0) l) (sym fd) fits.no_root;
   }
 
-  put_pages : pages_after pages (count_in pages w') w'.changes ≡ placed p i (pages_after pages m w.changes)
+  put_pages : pages_after pages (page_count_in pages w') w'.changes ≡ placed p i (pages_after pages m w.changes)
   put_pages =
       ap (λ (n : ℕ). pages_after pages n w'.changes) same_count
       ∙ ap (λ (cs : List (ℕ × List ℕ)). pages_after pages m cs) ch
       ∙ after_placed pages m m p i w.changes le (omega (arith, lt)) no_more fits.rising fits.below
 
   put_used : used_in used w' ≡ used_in used w
-  put_used = ap (λ (l : List ℕ). marked false l (front w'.frontier used)) fd ∙ ap (λ (n : ℕ). marked false w.freed.items (front n used)) fr
+  put_used = ap (λ (l : List ℕ). marked false l (front_in_use w'.frontier used)) fd ∙ ap (λ (n : ℕ). marked false w.freed.items (front_in_use n used)) fr
 
   pub put_stand : stand_on pages used w' ≡ with_page p i (stand_on pages used w)
   unfolding stand_on
@@ -141,9 +142,9 @@ module _ (pages : List (List ℕ)) (used : List Bool) (w w' : Work) (p : ℕ) (i
     (ch : w'.changes ≡ with_change p i w.changes) (fr : w'.frontier ≡ max w.frontier (p + 1))
     (unfrees : Unfrees p w.freed.items w'.freed.items) where
   abbrev pub count : ℕ
-  count = count_in pages w
+  count = page_count_in pages w
 
-  new_count : count_in pages w' ≡ max count (p + 1)
+  new_count : page_count_in pages w' ≡ max count (p + 1)
   new_count = ap (λ (n : ℕ). max (length pages) n) fr ∙ omega arith
 
   le_count : length pages ≤ count
@@ -159,21 +160,22 @@ module _ (pages : List (List ℕ)) (used : List Bool) (w w' : Work) (p : ℕ) (i
   record Left : Type 0 where
     pub falls : Falls w'.freed.items
     pub apart : Apart w'.freed.items p
-    pub was_used : AllUsed w'.freed.items (front w.frontier used)
+    pub was_used : AllUsed w'.freed.items (front_in_use w.frontier used)
     pub no_root : All (λ q. q ≢ 0) w'.freed.items
-    pub low : p < w.frontier → marked false w'.freed.items (front w.frontier used) ≡ set (used_in used w) p true
-    pub high : w.frontier ≤ p → marked false w'.freed.items (front (p + 1) used) ≡ set (used_in used w) p true
+    pub low : p < w.frontier → marked false w'.freed.items (front_in_use w.frontier used) ≡ set (used_in used w) p true
+    pub high : w.frontier ≤ p → marked false w'.freed.items (front_in_use (p + 1) used) ≡ set (used_in used w) p true
 
   left : Left
   left = elim unfrees [
     | inl last ↦ (let both = falls_front w'.freed.items p (subst Falls last fits.falls) in
         let apart = above_apart w'.freed.items p both.1 in
-        let was : set (marked false (w'.freed.items ++ p ∷ []) (front w.frontier used)) p true ≡ set (used_in used w) p true = ap
-        (λ (l : List ℕ). set (marked false l (front w.frontier used)) p true) (sym last) in
+        let was : set (marked false (w'.freed.items ++ p ∷ []) (front_in_use w.frontier used)) p true ≡ set (used_in used w) p true = ap
+        (λ (l : List ℕ). set (marked false l (front_in_use w.frontier used)) p true) (sym last) in
         record {
           falls = both.0;
           apart = apart;
-          was_used = used_front w'.freed.items p (front w.frontier used) (subst (λ (l : List ℕ). AllUsed l (front w.frontier used)) last fits.freed);
+          was_used = used_front w'.freed.items p (front_in_use w.frontier used)
+              (subst (λ (l : List ℕ). AllUsed l (front_in_use w.frontier used)) last fits.freed);
           no_root = no_root_front w'.freed.items p (subst (λ (l : List ℕ). All (λ q. q ≢ 0) l) last fits.no_root);
           low = λ lt. use_low w'.freed.items w.frontier p used lt apart ∙ was;
           high = λ ge. use_freed w'.freed.items w.frontier p used ge within next.full apart ∙ was;
@@ -184,13 +186,14 @@ module _ (pages : List (List ℕ)) (used : List Bool) (w w' : Work) (p : ℕ) (i
         record {
           falls = subst Falls (sym same.0) fits.falls;
           apart = apart;
-          was_used = subst (λ (l : List ℕ). AllUsed l (front w.frontier used)) (sym same.0) fits.freed;
+          was_used = subst (λ (l : List ℕ). AllUsed l (front_in_use w.frontier used)) (sym same.0) fits.freed;
           no_root = subst (λ (l : List ℕ). All (λ q. q ≢ 0) l) (sym same.0) fits.no_root;
           low = λ lt. (let free = next.least.free in
-              let is : get_or (used_in used w) p true ≡ true = marked_other false w.freed.items (front w.frontier used) p true apart'
+              let is : get_or (used_in used w) p true ≡ true = marked_other false w.freed.items (front_in_use w.frontier used) p true apart'
               ∙ front_below w.frontier used p true lt in
               let clash : false ≡ true = sym free ∙ is in absurd (let e = clash in cc));
-          high = λ ge. ap (λ (l : List ℕ). marked false l (front (p + 1) used)) same.0 ∙ use_next w.freed.items w.frontier p used ge within next.full apart';
+          high = λ ge. ap (λ (l : List ℕ). marked false l (front_in_use (p + 1) used)) same.0
+              ∙ use_next w.freed.items w.frontier p used ge within next.full apart';
         })
   ]
 
@@ -202,16 +205,16 @@ module _ (pages : List (List ℕ)) (used : List Bool) (w w' : Work) (p : ℕ) (i
 
   take_used : used_in used w' ≡ set (used_in used w) p true
   take_used = elim (cases_lt p w.frontier) [
-    | inl lt ↦ ap (λ (n : ℕ). marked false w'.freed.items (front n used)) (after_low lt) ∙ left.low lt
-    | inr ge ↦ ap (λ (n : ℕ). marked false w'.freed.items (front n used)) (after_high ge) ∙ left.high ge
+    | inl lt ↦ ap (λ (n : ℕ). marked false w'.freed.items (front_in_use n used)) (after_low lt) ∙ left.low lt
+    | inr ge ↦ ap (λ (n : ℕ). marked false w'.freed.items (front_in_use n used)) (after_high ge) ∙ left.high ge
   ]
 
-  take_freed : AllUsed w'.freed.items (front w'.frontier used)
+  take_freed : AllUsed w'.freed.items (front_in_use w'.frontier used)
   take_freed = elim (cases_lt p w.frontier) [
-    | inl lt ↦ subst (λ (n : ℕ). AllUsed w'.freed.items (front n used)) (sym (after_low lt)) left.was_used
-    | inr ge ↦ subst (λ (n : ℕ). AllUsed w'.freed.items (front n used)) (sym (after_high ge))
+    | inl lt ↦ subst (λ (n : ℕ). AllUsed w'.freed.items (front_in_use n used)) (sym (after_low lt)) left.was_used
+    | inr ge ↦ subst (λ (n : ℕ). AllUsed w'.freed.items (front_in_use n used)) (sym (after_high ge))
         (subst (AllUsed w'.freed.items) (sym (front_on w.frontier p used ge within next.full))
-        (used_set w'.freed.items p (front w.frontier used) left.apart left.was_used))
+        (used_set w'.freed.items p (front_in_use w.frontier used) left.apart left.was_used))
   ]
 
   pub take_fits : FitsOn pages used w'
@@ -232,10 +235,10 @@ module _ (pages : List (List ℕ)) (used : List Bool) (w w' : Work) (p : ℕ) (i
     no_root = left.no_root;
   }
 
-  take_pages : pages_after pages (count_in pages w') w'.changes ≡ placed p i (pages_after pages count w.changes)
+  take_pages : pages_after pages (page_count_in pages w') w'.changes ≡ placed p i (pages_after pages count w.changes)
   take_pages =
-      ap (λ (cs : List (ℕ × List ℕ)). pages_after pages (count_in pages w') cs) ch
-      ∙ after_placed pages count (count_in pages w') p i w.changes le_count take_within new_count fits.rising fits.below
+      ap (λ (cs : List (ℕ × List ℕ)). pages_after pages (page_count_in pages w') cs) ch
+      ∙ after_placed pages count (page_count_in pages w') p i w.changes le_count take_within new_count fits.rising fits.below
 
   pub take_stand : stand_on pages used w' ≡ taken_with p i (stand_on pages used w)
   unfolding stand_on

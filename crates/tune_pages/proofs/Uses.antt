@@ -3,7 +3,7 @@ use Rattle.std.proofs.Common.{◌≢◌, inl, inr, ℕ, ◌<◌, ◌≤◌, List
 use Rattle.std.specs.List.{Contains}
 use Rattle.std.proofs.lemmas.Bool.{cases_lt}
 use Rattle.tune_pages.specs.Stand.{IsUsed}
-use Rattle.tune_pages.specs.Work.{front, used_in, stand_on, FitsOn}
+use Rattle.tune_pages.specs.Work.{front_in_use, used_in, stand_on, FitsOn}
 use Rattle.tune_pages.specs.declared.work.Work.{Work}
 use Rattle.tune_pages.proofs.Finishing.{false_keeps}
 use Rattle.tune_pages.proofs.Giving.{not_freed}
@@ -21,7 +21,7 @@ module _ (pages : List (List ℕ)) (used : List Bool) (w : Work) (p : ℕ) where
 
   -- a freed page is not in use
   pub freed_unused : Contains w.freed.items p → IsUsed (stand_on pages used w).used p → ⊥
-  freed_unused has is = not_both p w.freed.items has (all_apart p w.freed.items (not_freed w.freed.items (front w.frontier used) p (from_stand is)))
+  freed_unused has is = not_both p w.freed.items has (all_apart p w.freed.items (not_freed w.freed.items (front_in_use w.frontier used) p (from_stand is)))
 
   module _ (kept : Contains w.freed.items p → ⊥) where
     apart : All (λ q. q ≢ p) w.freed.items
@@ -29,14 +29,14 @@ module _ (pages : List (List ℕ)) (used : List Bool) (w : Work) (p : ℕ) where
 
     -- one below the frontier is
     pub low_used : p < w.frontier → IsUsed (stand_on pages used w).used p
-    low_used lt = to_stand (marked_other false w.freed.items (front w.frontier used) p false apart ∙ front_below w.frontier used p false lt)
+    low_used lt = to_stand (marked_other false w.freed.items (front_in_use w.frontier used) p false apart ∙ front_below w.frontier used p false lt)
 
     -- and one behind it where the table says so
     pub high_used : w.frontier ≤ p → IsUsed used p → IsUsed (stand_on pages used w).used p
-    high_used ge is = to_stand (marked_other false w.freed.items (front w.frontier used) p false apart ∙ front_behind w.frontier used p false ge ∙ is)
+    high_used ge is = to_stand (marked_other false w.freed.items (front_in_use w.frontier used) p false apart ∙ front_behind w.frontier used p false ge ∙ is)
 
   pub high_marked : w.frontier ≤ p → IsUsed (stand_on pages used w).used p → IsUsed used p
-  high_marked ge is = sym (front_behind w.frontier used p false ge) ∙ false_keeps w.freed.items (front w.frontier used) p (from_stand is)
+  high_marked ge is = sym (front_behind w.frontier used p false ge) ∙ false_keeps w.freed.items (front_in_use w.frontier used) p (from_stand is)
 
 -- WHAT HOLDS OF EVERY WORK
 pub stand_root : (pages : List (List ℕ)) (used : List Bool) (w : Work) → FitsOn pages used w → IsUsed (stand_on pages used w).used 0

@@ -2,7 +2,7 @@
 use Rattle.std.proofs.Common.{◌≡◌, ◌≢◌, ℕ, ◌+◌, ◌<◌, List, [], ◌∷◌, ◌++◌, length, Bool, false, refl, sym, ◌∙◌, ap, subst, arith}
 use Rattle.std.proofs.lemmas.List.{length-append}
 use Rattle.tune_journal.specs.Pages.{page_at}
-use Rattle.tune_pages.specs.Chain.{next_of, piece_of, IsLink, Leads, bytes_along}
+use Rattle.tune_pages.specs.Chain.{next_page_of, piece_of, IsLink, Leads, bytes_along}
 use Rattle.tune_pages.specs.Inside.Walking.{HasLink}
 use Rattle.tune_pages.specs.Stand.{Stand, IsUsed, marked, AllUsed, HasChain, without_page, without_pages}
 use Rattle.tune_pages.proofs.Chains.{leads_once, leads_more, leads_split, bytes_more, marked_more}
@@ -46,7 +46,7 @@ reads_start s first bytes left none all = record { walked = []; leads = refl; re
 
 pub reads_more : (s : Stand) (first page next : ℕ) (old bytes : List ℕ) (left fewer : ℕ) → page ≢ 0 → ReadWalk s first page old left
     → IsLink (page_at s.pages page)
-    → next ≡ next_of (page_at s.pages page) → bytes ≡ old ++ piece_of (page_at s.pages page) → fewer + 1 ≡ left → ReadWalk s first next bytes fewer
+    → next ≡ next_page_of (page_at s.pages page) → bytes ≡ old ++ piece_of (page_at s.pages page) → fewer + 1 ≡ left → ReadWalk s first next bytes fewer
 reads_more s first page next old bytes left fewer ne reads link goes read one = record {
   walked = reads.walked ++ page ∷ [];
   leads = subst (λ (x : ℕ). Leads s.pages first (reads.walked ++ page ∷ []) x) (sym goes) (leads_more s.pages first reads.walked page reads.leads
@@ -91,7 +91,7 @@ abbrev made : List (List ℕ) → List Bool → Stand
 made pages used = record { pages = pages; used = used }
 
 pub frees_more : (s now after : Stand) (first page next : ℕ) → page ≢ 0 → FreeWalk s now first page → IsLink (page_at now.pages page)
-    → next ≡ next_of (page_at now.pages page)
+    → next ≡ next_page_of (page_at now.pages page)
     → after ≡ without_page page now → FreeWalk s after first next
 frees_more s now after first page next ne frees link' goes' is = record {
   walked = frees.walked ++ page ∷ [];
@@ -106,8 +106,8 @@ frees_more s now after first page next ne frees link' goes' is = record {
     link : IsLink (page_at s.pages page)
     link = subst (λ (l : List (List ℕ)). IsLink (page_at l page)) same link'
 
-    goes : next ≡ next_of (page_at s.pages page)
-    goes = goes' ∙ ap (λ (l : List (List ℕ)). next_of (page_at l page)) same
+    goes : next ≡ next_page_of (page_at s.pages page)
+    goes = goes' ∙ ap (λ (l : List (List ℕ)). next_page_of (page_at l page)) same
 
 pub frees_link : (s now : Stand) (first page : ℕ) (whole all : List ℕ) → page ≢ 0 → FreeWalk s now first page → HasChain s first whole all → HasLink now page
 frees_link s now first page whole all ne frees has =

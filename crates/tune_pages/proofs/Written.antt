@@ -7,7 +7,7 @@ use Rattle.std.proofs.lemmas.List.{replicate-append-replicate, set-append_left}
 use Rattle.std.proofs.lemmas.List.Elements.{All-head, All-tail}
 use Rattle.std.proofs.lemmas.Bool.{cases_lt}
 use Rattle.tune_pages.specs.Stand.{IsUsed, AllUsed, marked}
-use Rattle.tune_pages.specs.Work.{front}
+use Rattle.tune_pages.specs.Work.{front_in_use}
 use Rattle.tune_pages.proofs.Finishing.{used_within}
 use Rattle.tune_pages.proofs.Marks.{used_each}
 use Rattle.tune_pages.proofs.Overlay.{length-front}
@@ -53,8 +53,8 @@ laid_more m k n le most = ap (λ (i : ℕ). laid m k ++ replicate i false) (omeg
     ∙ ap (λ (i : ℕ). replicate i false) (omega (arith, le, most)))
 
 -- the front of the written ones is that of all
-pub front_laid : (k : ℕ) (m : List Bool) (n : ℕ) → k ≤ length m → laid (front k m) n ≡ front k (laid m n)
-front_laid k m n le = ap (λ (i : ℕ). front k m ++ replicate (n - i) false) (length-front k m le)
+pub front_laid : (k : ℕ) (m : List Bool) (n : ℕ) → k ≤ length m → laid (front_in_use k m) n ≡ front_in_use k (laid m n)
+front_laid k m n le = ap (λ (i : ℕ). front_in_use k m ++ replicate (n - i) false) (length-front k m le)
     ∙ append_assoc (replicate k true) (drop k m) (replicate (n - length m) false)
     ∙ ap (λ (l : List Bool). replicate k true ++ l) (sym (drop-append-le k m (replicate (n - length m) false) le))
 

@@ -7,8 +7,8 @@ use Rattle.tune_journal.specs.Pages.{page_at}
 use Rattle.tune_pages.specs.LinkOffsets.{next_bytes, used_bytes, piece_offset, piece_room}
 
 -- the page behind this one, 0 at the end
-unfoldable pub next_of : List ℕ → ℕ
-next_of image = big_number next_bytes image
+unfoldable pub next_page_of : List ℕ → ℕ
+next_page_of image = big_number next_bytes image
 
 -- how many of its bytes count
 unfoldable pub size_of : List ℕ → ℕ
@@ -22,7 +22,7 @@ piece_of image = take (size_of image) (drop piece_offset image)
 pub record IsLink (image : List ℕ) : Type 0 where
   pub some : 0 < size_of image
   pub most : size_of image ≤ piece_room
-  pub full : next_of image ≢ 0 → size_of image ≡ piece_room
+  pub full : next_page_of image ≢ 0 → size_of image ≡ piece_room
 
 -- Behind the bytes that count it has zeros.
 abbrev pub IsPadded : List ℕ → Type 0
@@ -34,7 +34,7 @@ abbrev pub Leads : List (List ℕ) → ℕ → List ℕ → ℕ → Type 0
 Leads pages first [] end = first ≡ end
 Leads pages first (p ∷ trail) end =
     (first ≡ p) × (0 < p) × (p < length pages) × IsLink (page_at pages p)
-    × Leads pages (next_of (page_at pages p)) trail end
+    × Leads pages (next_page_of (page_at pages p)) trail end
 
 -- the bytes on these pages
 abbrev pub bytes_along : List (List ℕ) → List ℕ → List ℕ

@@ -9,21 +9,21 @@ use Rattle.tune_pages.specs.Stand.{Stand, IsUsed, AllUsed, marked}
 use Rattle.tune_pages.specs.declared.work.Work.{Work}
 
 -- all pages below n, and those of the table behind
-abbrev pub front : ℕ → List Bool → List Bool
-front n used = replicate n true ++ drop n used
+abbrev pub front_in_use : ℕ → List Bool → List Bool
+front_in_use n used = replicate n true ++ drop n used
 
 -- all pages below the frontier and those in use behind it, but for the freed ones
 abbrev pub used_in : List Bool → Work → List Bool
-used_in used w = marked false w.freed.items (front w.frontier used)
+used_in used w = marked false w.freed.items (front_in_use w.frontier used)
 
 -- how many pages there will be
-abbrev pub count_in : List (List ℕ) → Work → ℕ
-count_in pages w = max (length pages) w.frontier
+abbrev pub page_count_in : List (List ℕ) → Work → ℕ
+page_count_in pages w = max (length pages) w.frontier
 
 -- the pages with what changes, and their use
 unfoldable pub stand_on : List (List ℕ) → List Bool → Work → Stand
 stand_on pages used w = record {
-  pages = pages_after pages (count_in pages w) w.changes;
+  pages = pages_after pages (page_count_in pages w) w.changes;
   used = used_in used w;
 }
 
@@ -44,10 +44,10 @@ pub record FitsOn (pages : List (List ℕ)) (used : List Bool) (w : Work) : Type
   pub inside : (p : ℕ) → IsUsed used p → p < length pages
   pub within : w.frontier ≤ length used
   pub rising : IsStrictlyIncreasing (map (λ c. c.0) w.changes)
-  pub below : All (λ c. c.0 < count_in pages w) w.changes
-  pub names : (p : ℕ) → length pages ≤ p → p < count_in pages w → IsSome (image_of p w.changes)
+  pub below : All (λ c. c.0 < page_count_in pages w) w.changes
+  pub names : (p : ℕ) → length pages ≤ p → p < page_count_in pages w → IsSome (image_of p w.changes)
   pub falls : Falls w.freed.items
-  pub freed : AllUsed w.freed.items (front w.frontier used)
+  pub freed : AllUsed w.freed.items (front_in_use w.frontier used)
   pub no_root : All (λ p. p ≢ 0) w.freed.items
 
 -- The work was begun on these pages, no other was finished on them since, and no call with it was

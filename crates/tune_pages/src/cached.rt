@@ -32,11 +32,11 @@ pub(crate) struct CachedImages {
 
 impl Model for CachedImages {
     ghost use Rattle.std.specs.Prelude.{List};
-    ghost use Rattle.tune_pages.specs.Inside.Cached.{Entry, entries_in, HasRoom};
+    ghost use Rattle.tune_pages.specs.Inside.Cached.{CachedImage, cached_images, HasRoom};
 
-    ghost Value = { List Entry };
+    ghost Value = { List CachedImage };
 
-    ghost view = { λ c. entries_in c.cache };
+    ghost view = { λ c. cached_images c.cache };
 
     ghost invariant = { λ c. HasRoom c.cache };
 }

@@ -1,7 +1,7 @@
 // What a work changes.
 ghost use Rattle.std.specs.Prelude.{◌≡◌, ◌<◌, ◌≤◌, ◌+◌, ◌++◌, ℕ, List, [], false, Err, length};
 ghost use Rattle.std.specs.Prelude.{IfOk, OnOk, IfSome, IfNone};
-ghost use Rattle.tune_journal.specs.ChangeList.{padded};
+ghost use Rattle.tune_journal.specs.ChangeList.{padded_image};
 ghost use Rattle.tune_journal.specs.FileOffsets.{block_bytes, most_pages};
 ghost use Rattle.tune_pages.specs.Faults.{AnswersWork, free_pages, pages_for};
 ghost use Rattle.tune_pages.specs.Inside.NextFree.{IsNextFree};
@@ -51,7 +51,7 @@ impl<D: Disk> Pages<D> {
         ensures within { IfOk result (λ page. (0 < page) × (page < most_pages)
             × (page ≤ length (stand self.now work.old).pages)) }
         ensures stand { IfOk result (λ page. stand self.now work.new
-            ≡ taken_with page (padded (head.now ++ rest.now)) (stand self.now work.old)) }
+            ≡ taken_with page (padded_image (head.now ++ rest.now)) (stand self.now work.old)) }
         ensures answer { AnswersWork result self.now.closed
             (IsFull (stand self.now work.old).used) }
         ensures full { IsFull (stand self.now work.old).used → self.now.closed ≡ false

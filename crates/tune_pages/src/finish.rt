@@ -8,7 +8,8 @@ ghost use Rattle.tune_journal.specs.Pages.{NamesAll, pages_after};
 ghost use Rattle.tune_pages.specs.Faults.{AnswersFinish, CallsDisk};
 ghost use Rattle.tune_pages.specs.Kept.{HonestAt, state_at};
 ghost use Rattle.tune_pages.specs.Stand.{AllUsed};
-ghost use Rattle.tune_pages.specs.Work.{stand, Fits, Falls, count_in, used_in, front, IsIdle};
+ghost use Rattle.tune_pages.specs.Work.{stand, Fits, Falls, page_count_in, used_in, front_in_use};
+ghost use Rattle.tune_pages.specs.Work.{IsIdle};
 ghost use Rattle.tune_pages.specs.declared.fault.Fault.TheVariants.{Device};
 
 use crate::fault::Fault;
@@ -61,15 +62,16 @@ impl<D: Disk> Pages<D> {
         ensures calls { CallsDisk D.honest D.failures result self.old.disk self.new.disk }
         ensures moments { let old = state_at D.state self.old.disk in
             let new = state_at D.state self.new.disk in
-            let count = count_in self.old.pages work.now in
+            let count = page_count_in self.old.pages work.now in
             let next = pages_after self.old.pages count work.now.changes in
             HonestAt D.honest self.new.disk
             → SinceThen old new (StandsForEither self.old.pages next) }
         ensures pages { OnOk result (HonestAt D.honest self.new.disk → self.new.pages
-            ≡ pages_after self.old.pages (count_in self.old.pages work.now) work.now.changes) }
+            ≡ pages_after self.old.pages (page_count_in self.old.pages work.now) work.now.changes) }
         ensures rest { OnOk result (HonestAt D.honest self.new.disk
             → LeavesOnly (state_at D.state self.new.disk).now (StandsFor self.new.pages)) }
-        ensures count { OnOk result (length self.new.pages ≡ count_in self.old.pages work.now) }
+        ensures count { OnOk result
+            (length self.new.pages ≡ page_count_in self.old.pages work.now) }
         ensures used { (self.new.used ≡ self.old.used) × (self.new.limit ≡ self.old.limit) }
         ensures idle { IsIdle work.now → self.new.disk ≡ self.old.disk }
         ensures closed { MatchResult result (λ _. self.new.closed ≡ false)
@@ -93,7 +95,8 @@ impl<D: Disk> Pages<D> {
         requires falls { Falls work.now.freed.items }
         requires within { work.now.frontier ≤ length self.old.used }
         requires count { work.now.frontier ≤ length self.old.pages }
-        requires freed { AllUsed work.now.freed.items (front work.now.frontier self.old.used) }
+        requires freed { AllUsed work.now.freed.items
+            (front_in_use work.now.frontier self.old.used) }
         requires root { All (λ p. p ≢ 0) work.now.freed.items }
         ensures used { self.new.used ≡ used_in self.old.used work.now }
         ensures disk { (self.new.disk ≡ self.old.disk) × (self.new.pages ≡ self.old.pages) }

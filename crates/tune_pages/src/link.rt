@@ -3,7 +3,7 @@ ghost use Rattle.std.specs.Prelude.{◌≡◌, ◌↔◌, ◌≤◌, ◌-◌, �
 ghost use Rattle.std.specs.Prelude.{IfNone, IfOk, IfSome, IsTrue, OnErr, OnOk};
 ghost use Rattle.byteorder.specs.Endian.{big_bytes};
 ghost use Rattle.tune_journal.specs.FileOffsets.{block_bytes};
-ghost use Rattle.tune_pages.specs.Chain.{next_of, size_of, piece_of, IsLink};
+ghost use Rattle.tune_pages.specs.Chain.{next_page_of, size_of, piece_of, IsLink};
 ghost use Rattle.tune_pages.specs.Faults.{pages_for};
 ghost use Rattle.tune_pages.specs.Inside.Link.{link_bytes};
 ghost use Rattle.tune_pages.specs.LinkOffsets.{piece_room};
@@ -26,10 +26,10 @@ pub fn pages_for(bytes: usize) -> usize
 }
 
 // The number of the next page, 0 at the end.
-#[tactic(auto, unfolding(crate::specs::Chain::next_of))]
+#[tactic(auto, unfolding(crate::specs::Chain::next_page_of))]
 pub(crate) fn next_page(image: &[u8]) -> u32
     requires { length image.now ≡ block_bytes }
-    ensures { result ≡ next_of image.now }
+    ensures { result ≡ next_page_of image.now }
 {
     BigEndian::read_u32(image)
 }
@@ -69,7 +69,7 @@ pub(crate) fn add_piece(image: &[u8], bytes: &mut Vec<u8>) -> Result<(), AllocEr
 // bytes as they were, where this can be no page of a chain or there is no memory for more bytes.
 pub(crate) fn add_link(image: &[u8], bytes: &mut Vec<u8>) -> Option<u32>
     requires { length image.now ≡ block_bytes }
-    ensures link { IfSome result (λ next. IsLink image.now × (next ≡ next_of image.now)
+    ensures link { IfSome result (λ next. IsLink image.now × (next ≡ next_page_of image.now)
         × (bytes.new.items ≡ bytes.old.items ++ piece_of image.now)) }
     ensures none { IfNone result (bytes.new.items ≡ bytes.old.items) }
 {
@@ -83,7 +83,7 @@ pub(crate) fn add_link(image: &[u8], bytes: &mut Vec<u8>) -> Option<u32>
 pub(crate) fn try_link(image: &[u8], bytes: &mut Vec<u8>) -> Result<Option<u32>, AllocError>
     requires { length image.now ≡ block_bytes }
     ensures link { IfOk result (λ found. IfSome found (λ next. IsLink image.now
-        × (next ≡ next_of image.now)
+        × (next ≡ next_page_of image.now)
         × (bytes.new.items ≡ bytes.old.items ++ piece_of image.now))) }
     ensures none { IfOk result (λ found. IfNone found ((IsLink image.now → ⊥)
         × (bytes.new.items ≡ bytes.old.items))) }

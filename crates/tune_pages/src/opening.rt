@@ -12,7 +12,7 @@ ghost use Rattle.tune_journal.specs.Moments.{KeepsEither, LeftOrSame, LeavesPage
 ghost use Rattle.tune_journal.specs.Pages.{page_at};
 ghost use Rattle.tune_journal.specs.Refusal.{CountsFailureIf, CountsFailureWhere, IsSynced};
 ghost use Rattle.tune_journal.specs.Refusal.{IsUnwritten};
-ghost use Rattle.tune_pages.specs.Chain.{next_of, piece_of, IsLink};
+ghost use Rattle.tune_pages.specs.Chain.{next_page_of, piece_of, IsLink};
 ghost use Rattle.tune_pages.specs.Claim.{Claimable, IsClaimable, IsChainFault, IsPageFault};
 ghost use Rattle.tune_pages.specs.Claim.{IsClaimableWithin, LooksOpening};
 ghost use Rattle.tune_pages.specs.Inside.Claiming.{CanLink, IsLinkFault};
@@ -95,7 +95,7 @@ fn read_image<D: Disk>(
 // Adds the bytes of a page of a chain, and gives the page behind it.
 fn take_link(image: &[u8], bytes: &mut Vec<u8>) -> Result<u32, ClaimFault>
     requires { length image.now ≡ block_bytes }
-    ensures link { IfOk result (λ next. IsLink image.now × (next ≡ next_of image.now)) }
+    ensures link { IfOk result (λ next. IsLink image.now × (next ≡ next_page_of image.now)) }
     ensures bytes { OnOk result (bytes.new.items ≡ bytes.old.items ++ piece_of image.now) }
     ensures fault { IfErr result (λ fault. IsLinkFault fault (IsLink image.now)) }
 {
@@ -155,7 +155,8 @@ impl<D: Disk> Opening<D> {
         ensures free { OnOk result (IsFree self.old.claimed page
             × (self.new.claimed ≡ slice_set self.old.claimed page true)) }
         ensures link { IfOk result (λ next. D.honest self.new.disk
-            → IsLink (page_at self.old.pages page) × (next ≡ next_of (page_at self.old.pages page))
+            → IsLink (page_at self.old.pages page)
+            × (next ≡ next_page_of (page_at self.old.pages page))
             × (page < length self.old.pages)) }
         ensures bytes { OnOk result (D.honest self.new.disk
             → bytes.new.items ≡ bytes.old.items ++ piece_of (page_at self.old.pages page)) }

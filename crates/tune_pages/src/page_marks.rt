@@ -5,7 +5,7 @@ ghost use Rattle.std.specs.Vec.{vec_capacity};
 ghost use Rattle.tune_journal.specs.FileOffsets.{most_pages};
 ghost use Rattle.tune_pages.specs.Inside.HeldPages.{AllUsedBelow};
 ghost use Rattle.tune_pages.specs.Stand.{IsUsed, IsFree, AllUsed, marked};
-ghost use Rattle.tune_pages.specs.Work.{front};
+ghost use Rattle.tune_pages.specs.Work.{front_in_use};
 
 use std::collections::VecDeque;
 use std::marker::Model;
@@ -78,7 +78,7 @@ impl PageMarks {
     pub(crate) fn take_front(&mut self, low: u32, frontier: u32)
         requires range { (low ≤ frontier) × (frontier ≤ length self.old) }
         requires low { AllUsedBelow low self.old }
-        ensures { self.new ≡ front frontier self.old }
+        ensures { self.new ≡ front_in_use frontier self.old }
     {
         let most = self.written.len().max(frontier as usize);
         self.written.resize(most, false).unwrap();
@@ -107,7 +107,7 @@ impl PageMarks {
 fn mark_front(written: &mut Vec<bool>, low: usize, frontier: usize)
     requires range { (low ≤ frontier) × (frontier ≤ length written.old.items) }
     requires low { AllUsedBelow low written.old.items }
-    ensures marks { written.new.items ≡ front frontier written.old.items }
+    ensures marks { written.new.items ≡ front_in_use frontier written.old.items }
     ensures room { vec_capacity written.new ≡ vec_capacity written.old }
 {
     for page in low..frontier {

@@ -2,7 +2,7 @@
 ghost use Rattle.std.specs.Prelude.{◌≡◌, ◌++◌, [], ◌<◌, ℕ, List, true, false, slice_set};
 ghost use Rattle.std.specs.Prelude.{IfOk, IfErr, IfSome, IfNone, OnOk};
 ghost use Rattle.tune_journal.specs.Pages.{page_at};
-ghost use Rattle.tune_pages.specs.Chain.{next_of, piece_of, IsLink};
+ghost use Rattle.tune_pages.specs.Chain.{next_page_of, piece_of, IsLink};
 ghost use Rattle.tune_pages.specs.Faults.{AnswersRead};
 ghost use Rattle.tune_pages.specs.Inside.Walking.{HasLink};
 ghost use Rattle.tune_pages.specs.Kept.{HonestAt};
@@ -140,7 +140,7 @@ impl<D: Disk> Pages<D> {
         requires { Fits self.old work.now }
         ensures next { IfOk result (λ found. IfSome found (λ next. HonestAt D.honest self.new.disk
             → IsLink (page_at (stand self.old work.now).pages page)
-            × (next ≡ next_of (page_at (stand self.old work.now).pages page)))) }
+            × (next ≡ next_page_of (page_at (stand self.old work.now).pages page)))) }
         ensures bytes { IfOk result (λ found. IfSome found (λ _. HonestAt D.honest self.new.disk
             → bytes.new.items
             ≡ bytes.old.items ++ piece_of (page_at (stand self.old work.now).pages page))) }
@@ -184,7 +184,7 @@ impl<D: Disk> Pages<D> {
         requires used { IsUsed (stand self.old work.now).used page }
         ensures link { let image = page_at (stand self.old work.now).pages page in
             HonestAt D.honest self.new.disk → IfSome result (λ next. IsLink image
-            × (next ≡ next_of image) × (bytes.new.items ≡ bytes.old.items ++ piece_of image)) }
+            × (next ≡ next_page_of image) × (bytes.new.items ≡ bytes.old.items ++ piece_of image)) }
         ensures none { IfNone result (bytes.new.items ≡ bytes.old.items) }
         ensures same { self.new ≡ self.old }
     {
@@ -209,7 +209,7 @@ impl<D: Disk> Pages<D> {
         requires used { IsUsed (stand self.now work.now).used page }
         ensures link { let image = page_at (stand self.now work.now).pages page in
             IfOk result (λ found. IfSome found (λ next. HonestAt D.honest self.now.disk
-            → IsLink image × (next ≡ next_of image)
+            → IsLink image × (next ≡ next_page_of image)
             × (bytes.new.items ≡ bytes.old.items ++ piece_of image))) }
         ensures none { IfOk result (λ found. IfNone found (bytes.new.items ≡ bytes.old.items)) }
         ensures err { IfErr result (λ fault. fault ≡ OutOfMemory) }
@@ -239,7 +239,7 @@ impl<D: Disk> Pages<D> {
         requires some { 0 < page }
         ensures next { IfOk result (λ found. IfSome found (λ next. HonestAt D.honest self.new.disk
             → IsLink (page_at (stand self.old work.old).pages page)
-            × (next ≡ next_of (page_at (stand self.old work.old).pages page)))) }
+            × (next ≡ next_page_of (page_at (stand self.old work.old).pages page)))) }
         ensures stand { IfOk result (λ found. IfSome found (λ _. HonestAt D.honest self.new.disk
             → stand self.new work.new ≡ without_page page (stand self.old work.old))) }
         ensures used { IfOk result (λ found. IfSome found (λ _.

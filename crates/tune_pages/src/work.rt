@@ -2,7 +2,7 @@
 ghost use Rattle.std.specs.Prelude.{◌≡◌, ◌<◌, ◌≤◌, ◌+◌, ◌++◌, ℕ, length, max, OnOk, OnErr};
 ghost use Rattle.std.specs.Prelude.{◌↔◌, slice_index_or, All, Contains, IsTrue};
 ghost use Rattle.std.specs.VecDeque.{deque_len};
-ghost use Rattle.tune_journal.specs.ChangeList.{padded, with_change};
+ghost use Rattle.tune_journal.specs.ChangeList.{padded_image, with_change};
 ghost use Rattle.tune_journal.specs.FileOffsets.{block_bytes, most_pages};
 ghost use Rattle.tune_pages.specs.Inside.Freed.{Unfrees, IsEnd, IsPutIn};
 ghost use Rattle.tune_pages.specs.Work.{Falls};
@@ -68,7 +68,7 @@ impl Work {
     pub(crate) fn take(&mut self, page: u32, head: &[u8], rest: &[u8]) -> Result<(), AllocError>
         requires page { page < most_pages }
         requires size { length head.now + length rest.now ≤ block_bytes }
-        ensures changes { let image = padded (head.now ++ rest.now) in OnOk result
+        ensures changes { let image = padded_image (head.now ++ rest.now) in OnOk result
             (self.new.changes ≡ with_change page image self.old.changes) }
         ensures frontier { OnOk result (self.new.frontier ≡ max self.old.frontier (page + 1)) }
         ensures freed { OnOk result (Unfrees page self.old.freed.items self.new.freed.items) }

@@ -4,7 +4,7 @@ use Rattle.std.specs.List.{AllByRecursion, Contains}
 use Rattle.std.proofs.lemmas.Grind.{flat_map-append}
 use Rattle.std.proofs.lemmas.List.Elements.{Contains-append_left, Contains-append_right}
 use Rattle.tune_journal.specs.Pages.{page_at}
-use Rattle.tune_pages.specs.Chain.{Leads, bytes_along, next_of, piece_of}
+use Rattle.tune_pages.specs.Chain.{Leads, bytes_along, next_page_of, piece_of}
 use Rattle.tune_parts.specs.Parts.{PartKind, Part, IsPart, IsPartOf, trails, root_and_trails}
 use Rattle.tune_parts.specs.Parts.PartKind.{chain, leaf}
 use Rattle.tune_parts.proofs.Lists.{all_join, contains_first, contains_later}
@@ -28,7 +28,7 @@ leads_there : (pages : List (List ℕ)) (first : ℕ) (trail : List ℕ) → Lea
 leads_there pages first [] leads = tt
 leads_there pages first (p ∷ trail) leads = (
   record { low = leads.2; not_root = λ is. omega (arith, is, leads.1) },
-  leads_there pages (next_of (page_at pages p)) trail leads.4,
+  leads_there pages (next_page_of (page_at pages p)) trail leads.4,
 )
 
 -- the pages of a part are there
@@ -58,7 +58,7 @@ leads_stay old new first (p ∷ trail) stays leads =
       leads.1,
       here.there,
       rw here.image leads.3,
-      rw here.image (leads_stay old new (next_of (page_at old p)) trail (λ page c. stays page (contains_later p trail page c)) leads.4),
+      rw here.image (leads_stay old new (next_page_of (page_at old p)) trail (λ page c. stays page (contains_later p trail page c)) leads.4),
     )
 
 bytes_stay : (old new : List (List ℕ)) (trail : List ℕ) → ((page : ℕ) → Contains trail page → Stays old new page)

@@ -17,7 +17,7 @@ use Rattle.tune_store.specs.declared.tune_store.TuneStore.{Ghosts}
 use Rattle.tune_store.proofs.StepLemmas.{refused_stays, answers_close, closed_answers}
 use Rattle.tune_store.proofs.StopLemmas.{passes_none, passes_more}
 use Rattle.tune_scripts.specs.declared.script_runs.RunEnd.{RunEnd}
-use Rattle.tune_scripts.specs.Carried.{Carried, CarriesOut, LeftByRun, run_of, timeline_of, moment_after}
+use Rattle.tune_scripts.specs.Carried.{Carried, CarriesAllOut, LeftByRun, run_of, timeline_of, moment_after}
 use Rattle.tune_scripts.specs.Timelines.{StandsForFirst}
 use Rattle.tune_scripts.specs.Prefixes.{FailsLast, never_fails, fails_last, state_by, state_after, AreAcknowledged, StandsForPrefix, StandsForEnd}
 use Rattle.tune_scripts.specs.ScriptRuns.{EndsAfter, IsOtherEnd, at_other_end, at_device_fault}
@@ -164,23 +164,23 @@ run_more (next ∷ a) b = ap (λ r. record { command = next.command; answer = ne
 
 module _ {S : Type 0} (s : Ghosts S) where
   -- one part after another
-  pub carries_more : (a b : List (Carried S)) (old mid new : S) → CarriesOut s old a mid → CarriesOut s mid b new → CarriesOut s old (a ++ b) new
-  carries_more [] b old mid new h k = subst (λ from. CarriesOut s from b new) h k
+  pub carries_more : (a b : List (Carried S)) (old mid new : S) → CarriesAllOut s old a mid → CarriesAllOut s mid b new → CarriesAllOut s old (a ++ b) new
+  carries_more [] b old mid new h k = subst (λ from. CarriesAllOut s from b new) h k
   carries_more (next ∷ a) b old mid new h k = (h.0, carries_more a b next.after mid new h.1 k)
 
   -- where its device is honest after all, it was honest before
-  pub honest_before : (carried : List (Carried S)) (old new : S) → CarriesOut s old carried new → s.honest new → s.honest old
+  pub honest_before : (carried : List (Carried S)) (old new : S) → CarriesAllOut s old carried new → s.honest new → s.honest old
   honest_before [] old new h honest = subst s.honest h honest
   honest_before (next ∷ carried) old new h honest = h.0.passes.was_honest (honest_before carried next.after new h.1 honest)
 
   -- it is a run
-  pub runs_carried : (carried : List (Carried S)) (old new : S) → CarriesOut s old carried new
+  pub runs_carried : (carried : List (Carried S)) (old new : S) → CarriesAllOut s old carried new
       → Runs (standing_of s old) (run_of carried) (standing_of s new)
   runs_carried [] old new h = ap (standing_of s) h
   runs_carried (next ∷ carried) old new h = (standing_of s next.after, h.0.answers, runs_carried carried next.after new h.1)
 
   -- a store that is never closed is not answered that its device failed
-  pub acknowledged_open : ((store : S) → s.closed store ≡ false) → (carried : List (Carried S)) (old new : S) → CarriesOut s old carried new
+  pub acknowledged_open : ((store : S) → s.closed store ≡ false) → (carried : List (Carried S)) (old new : S) → CarriesAllOut s old carried new
       → AreAcknowledged (run_of carried)
   acknowledged_open is_open [] old new h = tt
   acknowledged_open is_open (next ∷ carried) old new h =
@@ -192,18 +192,18 @@ module _ {S : Type 0} (s : Ghosts S) where
   states_of old [] = []
   states_of old (next ∷ carried) = passed (s.state old) next.command next.answer ++ states_of next.after carried
 
-  pub passes_all : (carried : List (Carried S)) (old new : S) → CarriesOut s old carried new → StorePasses s old new (states_of old carried)
+  pub passes_all : (carried : List (Carried S)) (old new : S) → CarriesAllOut s old carried new → StorePasses s old new (states_of old carried)
   passes_all [] old new h = subst (λ there. StorePasses s old there []) (sym h) (passes_none s old)
   passes_all (next ∷ carried) old new h =
       passes_more s old next.after new (passed (s.state old) next.command next.answer) (states_of next.after carried) h.0.passes
       (passes_all carried next.after new h.1)
 
   -- its moments rise
-  pub moments_rise : (carried : List (Carried S)) (old new : S) → CarriesOut s old carried new → s.honest new → s.moment old ≤ s.moment new
+  pub moments_rise : (carried : List (Carried S)) (old new : S) → CarriesAllOut s old carried new → s.honest new → s.moment old ≤ s.moment new
   moments_rise carried old new h honest = (passes_all carried old new h).later honest
 
   -- a closed store passes no state
-  none_closed : (carried : List (Carried S)) (old new : S) → CarriesOut s old carried new → s.closed old ≡ true → states_of old carried ≡ []
+  none_closed : (carried : List (Carried S)) (old new : S) → CarriesAllOut s old carried new → s.closed old ≡ true → states_of old carried ≡ []
   none_closed [] old new h closed = refl
   none_closed (next ∷ carried) old new h closed =
       let told = (closed_answers (standing_of s old) (standing_of s next.after) next.command next.answer h.0.answers).1 closed in
@@ -213,7 +213,7 @@ module _ {S : Type 0} (s : Ghosts S) where
       ∙ none_closed carried next.after new h.1 shut
 
   -- a file that stands for a state after a command stands for one after a prefix that holds it, by what is known from there on
-  stands_later : (next : Carried S) (carried : List (Carried S)) (old new : S) (file : List ℕ) → CarriesOut s old (next ∷ carried) new
+  stands_later : (next : Carried S) (carried : List (Carried S)) (old new : S) (file : List ℕ) → CarriesAllOut s old (next ∷ carried) new
       → (s.closed next.after ≡ false → StandsForOne s.stands_for (s.state next.after ∷ states_of next.after carried) file
       → StandsForPrefix s.stands_for (s.state next.after) [] (run_of carried) file)
       → (b : Bool) → stays_open next.answer ≡ b → StandsForOne s.stands_for (states_of next.after carried) file
@@ -230,7 +230,7 @@ module _ {S : Type 0} (s : Ghosts S) where
       absurd (subst P (none_closed carried next.after new h.1 closed) later)
 
   -- a file that stands for one of the states stands for the state after a prefix of the commands
-  stands_for_prefix : (carried : List (Carried S)) (old new : S) (file : List ℕ) → CarriesOut s old carried new → s.closed old ≡ false
+  stands_for_prefix : (carried : List (Carried S)) (old new : S) (file : List ℕ) → CarriesAllOut s old carried new → s.closed old ≡ false
       → StandsForOne s.stands_for (s.state old ∷ states_of old carried) file → StandsForPrefix s.stands_for (s.state old) [] (run_of carried) file
   stands_for_prefix carried old new file h is_open (inl stands) = record { more = []; later = run_of carried; divides = refl; stands = stands }
   stands_for_prefix [] old new file h is_open (inr none) = absurd none
@@ -247,7 +247,7 @@ module _ {S : Type 0} (s : Ghosts S) where
       ]
 
   -- what stops leave since a moment before the run, by what they left of the store before it
-  pub left_since_earlier : (carried : List (Carried S)) (old new : S) (since : ℕ) (file : List ℕ) → CarriesOut s old carried new → s.sound old
+  pub left_since_earlier : (carried : List (Carried S)) (old new : S) (since : ℕ) (file : List ℕ) → CarriesAllOut s old carried new → s.sound old
       → s.honest new → s.closed old ≡ false → since ≤ s.moment old → (s.left_since old since file → s.stands_for file (s.state old))
       → s.left_since new since file → StandsForPrefix s.stands_for (s.state old) [] (run_of carried) file
   left_since_earlier carried old new since file h sound honest is_open early before left =
@@ -257,17 +257,17 @@ module _ {S : Type 0} (s : Ghosts S) where
       ])
 
   -- after a front of the commands
-  pub carries_split : (a b : List (Carried S)) (old new : S) → CarriesOut s old (a ++ b) new
-      → (mid : S) × CarriesOut s old a mid × CarriesOut s mid b new
+  pub carries_split : (a b : List (Carried S)) (old new : S) → CarriesAllOut s old (a ++ b) new
+      → (mid : S) × CarriesAllOut s old a mid × CarriesAllOut s mid b new
   carries_split [] b old new h = (old, refl, h)
   carries_split (next ∷ a) b old new h =
       let rest = carries_split a b next.after new h.1 in (rest.0, (h.0, rest.1), rest.2)
 
-  moment_at : (carried : List (Carried S)) (old new : S) → CarriesOut s old carried new → moment_after s old carried ≡ s.moment new
+  moment_at : (carried : List (Carried S)) (old new : S) → CarriesAllOut s old carried new → moment_after s old carried ≡ s.moment new
   moment_at [] old new h = ap s.moment (sym h)
   moment_at (next ∷ carried) old new h = moment_at carried next.after new h.1
 
-  still_open : (carried : List (Carried S)) (old new : S) → CarriesOut s old carried new → s.closed old ≡ false → AreAcknowledged (run_of carried)
+  still_open : (carried : List (Carried S)) (old new : S) → CarriesAllOut s old carried new → s.closed old ≡ false → AreAcknowledged (run_of carried)
       → s.closed new ≡ false
   still_open [] old new h is_open all = ap s.closed h ∙ is_open
   still_open (next ∷ carried) old new h is_open all =
@@ -278,7 +278,7 @@ module _ {S : Type 0} (s : Ghosts S) where
   module _ (settled : (store : S) (file : List ℕ) → s.sound store → s.honest store → s.closed store ≡ false
       → s.left_since store (s.moment store) file → s.stands_for file (s.state store)) where
     -- since the run began
-    left_since_start : (carried : List (Carried S)) (old new : S) (file : List ℕ) → CarriesOut s old carried new → s.sound old → s.honest new
+    left_since_start : (carried : List (Carried S)) (old new : S) (file : List ℕ) → CarriesAllOut s old carried new → s.sound old → s.honest new
         → s.closed old ≡ false → s.left_since new (s.moment old) file → StandsForPrefix s.stands_for (s.state old) [] (run_of carried) file
     left_since_start carried old new file h sound honest is_open left =
         let early : s.moment old ≤ s.moment old = omega arith in
@@ -287,7 +287,7 @@ module _ {S : Type 0} (s : Ghosts S) where
         (λ was_left. settled old file sound honest_old is_open was_left) left
 
     -- since some of its commands were answered
-    left_since_answer : (done rest : List (Carried S)) (old new : S) (file : List ℕ) → CarriesOut s old (done ++ rest) new → s.sound old → s.honest new
+    left_since_answer : (done rest : List (Carried S)) (old new : S) (file : List ℕ) → CarriesAllOut s old (done ++ rest) new → s.sound old → s.honest new
         → s.closed old ≡ false → AreAcknowledged (run_of done) → s.left_since new (moment_after s old done) file
         → StandsForPrefix s.stands_for (s.state old) (run_of done) (run_of rest) file
     left_since_answer [] rest old new file h sound honest is_open all left = left_since_start rest old new file h sound honest is_open left
@@ -300,12 +300,12 @@ module _ {S : Type 0} (s : Ghosts S) where
         (subst P told found)
 
     -- at its end
-    left_at_end : (carried : List (Carried S)) (old new : S) (run : List Answered) (file : List ℕ) → CarriesOut s old carried new
+    left_at_end : (carried : List (Carried S)) (old new : S) (run : List Answered) (file : List ℕ) → CarriesAllOut s old carried new
         → s.sound old → s.honest new → s.closed old ≡ false → run_of carried ≡ run → FailsLast run
         → ((since earlier : ℕ) (other : List ℕ) → earlier ≤ since → s.left_since new since other → s.left_since new earlier other)
         → s.left_since new (s.moment new) file → StandsForEnd s.stands_for (s.state old) run file
     left_at_end carried old new _ file h sound honest is_open same (never_fails run all) earlier left =
-        let whole : CarriesOut s old (carried ++ []) new = subst (λ c. CarriesOut s old c new) (sym (append-nil carried)) h in
+        let whole : CarriesAllOut s old (carried ++ []) new = subst (λ c. CarriesAllOut s old c new) (sym (append-nil carried)) h in
         let known = subst (λ since. s.left_since new since file) (sym (moment_at carried old new h)) left in
         let all_here = subst AreAcknowledged (sym same) all in
         let found = left_since_answer carried [] old new file whole sound honest is_open all_here known in
@@ -315,7 +315,7 @@ module _ {S : Type 0} (s : Ghosts S) where
         let parts = split_last carried before last (same ∙ divides) in
         let done = parts.0 in
         let one = parts.1 in
-        let whole = subst (λ c. CarriesOut s old c new) parts.2 h in
+        let whole = subst (λ c. CarriesAllOut s old c new) parts.2 h in
         let split = carries_split done (one ∷ []) old new whole in
         let all_here = subst AreAcknowledged (sym parts.3) all in
         let open_here = still_open done old split.0 split.1 is_open all_here in
@@ -344,7 +344,7 @@ module _ {S : Type 0} (s : Ghosts S) where
         ]
 
     -- all of it
-    pub left_by : (carried : List (Carried S)) (old new : S) → CarriesOut s old carried new → FailsLast (run_of carried) → s.honest new
+    pub left_by : (carried : List (Carried S)) (old new : S) → CarriesAllOut s old carried new → FailsLast (run_of carried) → s.honest new
         → ((since earlier : ℕ) (other : List ℕ) → earlier ≤ since → s.left_since new since other → s.left_since new earlier other)
         → s.sound old → s.closed old ≡ false
         → ((moment : ℕ) (file : List ℕ) → s.moment old ≤ moment → s.left_at new moment file
@@ -353,7 +353,7 @@ module _ {S : Type 0} (s : Ghosts S) where
     left_by carried old new h fails honest earlier sound is_open each = record {
       since_start = λ file left. left_since_start carried old new file h sound honest is_open left;
       acknowledged = λ done rest file same all left.
-          let whole = subst (λ c. CarriesOut s old c new) same h in
+          let whole = subst (λ c. CarriesAllOut s old c new) same h in
           left_since_answer done rest old new file whole sound honest is_open all left;
       at_each_moment = each;
       at_end = λ file left. left_at_end carried old new (run_of carried) file h sound honest is_open refl fails earlier left;

@@ -11,7 +11,7 @@ use Rattle.tune_scripts.specs.declared.script_runs.RunEnd.TheVariants.{Ended, Li
 use Rattle.tune_scripts.specs.declared.script_runs.RunEnd.TheVariants as run
 use Rattle.tune_scripts.specs.Consoles.{InputTold, OutputTold, Look}
 use Rattle.tune_scripts.specs.Looks.{IsPrompt, IsPartOfTurn, LooksMore, LooksBehind, LooksPromptly, TellsFaults}
-use Rattle.tune_scripts.specs.Carried.{Carried, CarriesOut, LeftByRun, run_of}
+use Rattle.tune_scripts.specs.Carried.{Carried, CarriesAllOut, LeftByRun, run_of}
 use Rattle.tune_scripts.specs.Prefixes.{AreAcknowledged}
 use Rattle.tune_scripts.specs.Scripts.{Script, line_bound}
 use Rattle.tune_scripts.specs.ScriptRuns.{RunWork, work_by, UnlessWriterFails, WritesScript, TellsScript, EndsAfter, at_other_end}
@@ -105,14 +105,14 @@ module _ {S : Type 0} (s : store.Ghosts S) where
   -- What the turns so far came to, with at most so many lines from the start and so many from here.
   pub record IsSoFar (lines more : ℕ) (old_input new_input was now : Option (List ℕ)) (old new : S) : Type 0 where
     pub carried : List (Carried S)
-    pub carries_out : CarriesOut s old carried new
+    pub carries_out : CarriesAllOut s old carried new
     pub acknowledged : AreAcknowledged (run_of carried)
     pub came : IfSome old_input (λ input. GoesOn lines more input new_input (work_by was now (run_of carried)))
 
   -- What a run came to, by the bytes of its input and its output.
   pub record HasRun (lines : ℕ) (old_input new_input was now : Option (List ℕ)) (old new : S) (end : RunEnd) : Type 0 where
     pub carried : List (Carried S)
-    pub carries_out : CarriesOut s old carried new
+    pub carries_out : CarriesAllOut s old carried new
     pub ends : EndsAfter end (run_of carried)
     pub script : TellsScript lines old_input new_input (work_by was now (run_of carried)) end
     pub stops : s.sound old → s.closed old ≡ false → LeftByRun s old carried new
@@ -150,7 +150,7 @@ module _ {S : Type 0} (s : store.Ghosts S) where
     -- after one turn more, at which it ends
     pub so_far_end : (end : RunEnd) (old_input between_input : Option (List ℕ)) → IsSoFar lines (suc more) old_input between_input was between old mid
         → TurnsOver s (output_of between now) mid new (Some end) (λ work. Turns between_input new_input work (Some end))
-        → ((carried : List (Carried S)) → CarriesOut s old carried new → EndsAfter end (run_of carried)
+        → ((carried : List (Carried S)) → CarriesAllOut s old carried new → EndsAfter end (run_of carried)
         → s.sound old → s.closed old ≡ false → LeftByRun s old carried new)
         → HasRun lines old_input new_input was now old new end
     so_far_end end old_input between_input h k left =
@@ -167,7 +167,7 @@ module _ {S : Type 0} (s : store.Ghosts S) where
 
   -- no lines are left
   pub so_far_all : (lines : ℕ) (old_input new_input was now : Option (List ℕ)) (old new : S) → IsSoFar lines 0 old_input new_input was now old new
-      → ((carried : List (Carried S)) → CarriesOut s old carried new → EndsAfter LineBound (run_of carried)
+      → ((carried : List (Carried S)) → CarriesAllOut s old carried new → EndsAfter LineBound (run_of carried)
       → s.sound old → s.closed old ≡ false → LeftByRun s old carried new)
       → HasRun lines old_input new_input was now old new LineBound
   so_far_all lines old_input new_input was now old new h left =

@@ -14,7 +14,7 @@ use Rattle.tune_store.specs.declared.command.Refusal.TheVariants.{Device}
 use Rattle.tune_store.specs.Runs.{Answered}
 use Rattle.tune_store.specs.Stores.{standing_of}
 use Rattle.tune_store.specs.declared.tune_store.TuneStore.{Ghosts}
-use Rattle.tune_scripts.specs.Carried.{Carried, IsCarried, CarriesOut, LeftByRun, run_of, timed_of, timeline_of}
+use Rattle.tune_scripts.specs.Carried.{Carried, IsCarried, CarriesAllOut, LeftByRun, run_of, timed_of, timeline_of}
 use Rattle.tune_scripts.specs.Timelines.{Timed, StandsForFirst, IsAnsweredAt, IsByRules, AreAnswered, RisesTo}
 use Rattle.tune_scripts.specs.Timelines.{is_answered_by, answered_by, answered_of}
 use Rattle.tune_scripts.specs.Prefixes.{FailsLast, never_fails, fails_last, state_by, state_after, AreAcknowledged}
@@ -73,7 +73,7 @@ no_answer at next shut = elim (leb_tells next.moment at) [
 -- BEFORE THE FIRST
 module _ {S : Type 0} (s : Ghosts S) where
   -- no command is answered before the first begins
-  pub none_before : (carried : List (Carried S)) (old new : S) (at : ℕ) → CarriesOut s old carried new → s.honest new → at < s.moment old
+  pub none_before : (carried : List (Carried S)) (old new : S) (at : ℕ) → CarriesAllOut s old carried new → s.honest new → at < s.moment old
       → answered_by at (timed_of s carried) ≡ 0
   none_before [] old new at h honest early = refl
   none_before (next ∷ carried) old new at h honest early =
@@ -82,7 +82,7 @@ module _ {S : Type 0} (s : Ghosts S) where
       let later : at < s.moment next.after = omega arith in
       counts_none at next_timed (timed_of s carried) (not_yet at next_timed later) ∙ none_before carried next.after new at h.1 honest later
 
-  pub none_then : (carried : List (Carried S)) (old new : S) (at : ℕ) → CarriesOut s old carried new → s.honest new → at < s.moment old
+  pub none_then : (carried : List (Carried S)) (old new : S) (at : ℕ) → CarriesAllOut s old carried new → s.honest new → at < s.moment old
       → IsAnsweredAt at (timed_of s carried) → ⊥
   none_then [] old new at h honest early is = is
   none_then (next ∷ carried) old new at h honest early is =
@@ -183,7 +183,7 @@ module _ {S : Type 0} (s : Ghosts S) (settled : (store : S) (file : List ℕ) �
         stands = subst P told found.stands;
       }
 
-  by_answer : (next : Carried S) (carried : List (Carried S)) (old new : S) (at : ℕ) (file : List ℕ) → CarriesOut s old (next ∷ carried) new
+  by_answer : (next : Carried S) (carried : List (Carried S)) (old new : S) (at : ℕ) (file : List ℕ) → CarriesAllOut s old (next ∷ carried) new
       → FailsLast (run_of (next ∷ carried)) → s.sound old → s.honest new → s.closed old ≡ false → s.moment old ≤ at
       → s.moment next.after ≤ at → s.left_at new at file
       → (s.closed next.after ≡ false → FailsLast (run_of carried) → StandsForFirst s.stands_for (timeline_of s next.after carried) at file)
@@ -198,13 +198,13 @@ module _ {S : Type 0} (s : Ghosts S) (settled : (store : S) (file : List ℕ) �
       let next_timed : Timed = record { command = next.command; answer = next.answer; moment = s.moment next.after } in
       let none = no_run carried (none_later answered (run_of carried) _ fails refl shut) in
       let mid = honest_before s carried next.after new h.1 honest in
-      let left_mid = subst (λ store. s.left_at store at file) (subst (λ rest. CarriesOut s next.after rest new) none h.1) left in
+      let left_mid = subst (λ store. s.left_at store at file) (subst (λ rest. CarriesAllOut s next.after rest new) none h.1) left in
       let one = at_one next [] old at file h.0 sound mid is_open late left_mid (counts_none at next_timed [] (no_answer at next_timed shut))
       (λ is. elim is [ inl here ↦ (let go = here.1 in cc) | inr there ↦ there ]) in
       subst (λ rest. StandsForFirst s.stands_for (timeline_of s old (next ∷ rest)) at file) (sym none) one
 
   -- each file that a stop leaves at a moment stands for the state after the commands that were answered by then, and the next one or not
-  pub stands_for_first : (carried : List (Carried S)) (old new : S) (at : ℕ) (file : List ℕ) → CarriesOut s old carried new
+  pub stands_for_first : (carried : List (Carried S)) (old new : S) (at : ℕ) (file : List ℕ) → CarriesAllOut s old carried new
       → FailsLast (run_of carried) → s.sound old → s.honest new → s.closed old ≡ false → s.moment old ≤ at → s.left_at new at file
       → StandsForFirst s.stands_for (timeline_of s old carried) at file
   stands_for_first [] old new at file h fails sound honest is_open late left =
@@ -234,7 +234,7 @@ module _ {S : Type 0} (s : Ghosts S) (settled : (store : S) (file : List ℕ) �
       ]
 
   -- and all that stops leave since the run began
-  pub left_by_run : (carried : List (Carried S)) (old new : S) → CarriesOut s old carried new → FailsLast (run_of carried) → s.honest new
+  pub left_by_run : (carried : List (Carried S)) (old new : S) → CarriesAllOut s old carried new → FailsLast (run_of carried) → s.honest new
       → ((since earlier : ℕ) (other : List ℕ) → earlier ≤ since → s.left_since new since other → s.left_since new earlier other)
       → s.sound old → s.closed old ≡ false → LeftByRun s old carried new
   left_by_run carried old new h fails honest earlier sound is_open =
@@ -274,7 +274,7 @@ one_fails_last next = go (stays_open next.answer) refl
 
 module _ {S : Type 0} (s : Ghosts S) where
   -- the commands that a store carried out are answered so
-  pub are_answered : (carried : List (Carried S)) (old new : S) → CarriesOut s old carried new → FailsLast (run_of carried) → s.closed old ≡ false
+  pub are_answered : (carried : List (Carried S)) (old new : S) → CarriesAllOut s old carried new → FailsLast (run_of carried) → s.closed old ≡ false
       → AreAnswered (s.state old) (timed_of s carried)
   are_answered [] old new h fails is_open = tt
   are_answered (next ∷ carried) old new h fails is_open =
@@ -299,7 +299,7 @@ module _ {S : Type 0} (s : Ghosts S) where
   answers_timed (next ∷ carried) = ap (λ run. record { command = next.command; answer = next.answer } ∷ run) (answers_timed carried)
 
   -- and the moments rise
-  pub rises_run : (carried : List (Carried S)) (old new : S) → CarriesOut s old carried new → s.honest new
+  pub rises_run : (carried : List (Carried S)) (old new : S) → CarriesAllOut s old carried new → s.honest new
       → RisesTo (s.moment old) (timed_of s carried) (s.moment new)
   rises_run [] old new h honest = (let same = ap s.moment h in omega (arith, same))
   rises_run (next ∷ carried) old new h honest =

@@ -29,10 +29,10 @@ pub record IsCarried {S : Type 0} (kept : Ghosts S) (old : S) (next : Carried S)
   pub passes : StorePasses kept old next.after (passed (kept.state old) next.command next.answer)
 
 -- from one store to another by these commands and nothing else, one after another
-abbrev pub CarriesOut : {S : Type 0} → Ghosts S → S → List (Carried S) → S → Type 0
-CarriesOut kept old [] new = new ≡ old
-CarriesOut kept old (next ∷ carried) new =
-    IsCarried kept old next × CarriesOut kept next.after carried new
+abbrev pub CarriesAllOut : {S : Type 0} → Ghosts S → S → List (Carried S) → S → Type 0
+CarriesAllOut kept old [] new = new ≡ old
+CarriesAllOut kept old (next ∷ carried) new =
+    IsCarried kept old next × CarriesAllOut kept next.after carried new
 
 -- how far the store's device had come when the last of these was answered, or at the start
 abbrev pub moment_after : {S : Type 0} → Ghosts S → S → List (Carried S) → ℕ

@@ -119,8 +119,8 @@ abbrev pub rest_of : List ℕ → List ℕ
 rest_of line = trimmed (from_blank (trimmed line))
 
 -- what a query is for, by its word
-abbrev pub kind_of : List ℕ → Option QueryKind
-kind_of word =
+abbrev pub query_kind : List ℕ → Option QueryKind
+query_kind word =
     if bytes_eq word (codes "title") then Some kind.Title
     else if bytes_eq word (codes "rhythm") then Some kind.Rhythm
     else if bytes_eq word (codes "key") then Some kind.Key
@@ -141,7 +141,7 @@ find_of (Some kind) text = Whole (of.Find (query_of kind text))
 
 -- what a line asks for that begins with `find`, by what follows
 abbrev pub meaning_of_find : List ℕ → ScriptLine
-meaning_of_find rest = find_of (kind_of (word_of rest)) (rest_of rest)
+meaning_of_find rest = find_of (query_kind (word_of rest)) (rest_of rest)
 
 -- LINES
 -- what a line asks for: only the text of a query may have more words or fewer

@@ -7,7 +7,7 @@ use Rattle.tune_store.specs.declared.tune_store.TuneStore as store
 use Rattle.tune_scripts.specs.declared.script_runs.RunEnd.{RunEnd}
 use Rattle.tune_scripts.specs.declared.script_runs.RunEnd.TheVariants.{ReaderFault, WriterFault}
 use Rattle.tune_scripts.specs.declared.script_runs.RunEnd.TheVariants.{DeviceFault, OutOfMemory}
-use Rattle.tune_scripts.specs.Carried.{Carried, CarriesOut, LeftByRun, run_of}
+use Rattle.tune_scripts.specs.Carried.{Carried, CarriesAllOut, LeftByRun, run_of}
 use Rattle.tune_scripts.specs.Prefixes.{AreAcknowledged}
 use Rattle.tune_scripts.specs.Scripts.{Script}
 use Rattle.tune_scripts.specs.Streams.{Streams}
@@ -81,7 +81,7 @@ pub record RunsScript {S : Type 0} (kept : store.Ghosts S) (lines : ℕ) (stream
     (old new : S) (end : RunEnd) : Type 0 where
   pub carried : List (Carried S)
   -- the store carried them out, each answered by the rules, and nothing else
-  pub carries_out : CarriesOut kept old carried new
+  pub carries_out : CarriesAllOut kept old carried new
   -- the run ended by the device exactly where the last answer was that it failed
   pub ends : EndsAfter end (run_of carried)
   -- they are those of the script, and so are the replies

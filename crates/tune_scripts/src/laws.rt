@@ -1,6 +1,6 @@
 // What holds of commands over a store, one after another.
 ghost use Rattle.std.specs.Prelude.{◌≡◌, List, false};
-ghost use Rattle.tune_scripts.specs.Carried.{Carried, CarriesOut, LeftByRun, run_of};
+ghost use Rattle.tune_scripts.specs.Carried.{Carried, CarriesAllOut, LeftByRun, run_of};
 ghost use Rattle.tune_scripts.specs.Prefixes.{FailsLast};
 
 use tune_store::TuneStore;
@@ -14,7 +14,7 @@ use tune_store::TuneStore;
 /// ends there.
 pub fn law_of_prefixes<S: TuneStore>()
     ensures left { (old : S) (carried : List (Carried S)) (new : S)
-        → CarriesOut S.TuneStore old carried new → FailsLast (run_of carried)
+        → CarriesAllOut S.TuneStore old carried new → FailsLast (run_of carried)
         → S.honest new → S.sound old → S.closed old ≡ false
         → LeftByRun S.TuneStore old carried new }
 {}

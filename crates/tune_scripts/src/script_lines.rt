@@ -4,7 +4,8 @@ ghost use Rattle.abc_fields.specs.Words.{words_of};
 ghost use Rattle.tune_scripts.specs.Limits.{longest_line};
 ghost use Rattle.tune_scripts.specs.ScriptLines.{meaning_of, meaning_of_line, meaning_of_find};
 ghost use Rattle.tune_scripts.specs.ScriptLines.{meaning_of_number, renumber_of, number_of};
-ghost use Rattle.tune_scripts.specs.ScriptLines.{command_of, kind_of, query_of, word_of, rest_of};
+ghost use Rattle.tune_scripts.specs.ScriptLines.{command_of, query_kind, query_of, word_of};
+ghost use Rattle.tune_scripts.specs.ScriptLines.{rest_of};
 ghost use Rattle.tune_scripts.specs.ScriptLines.{line_holds_text};
 
 use abc_fields::{ByteText, trim_blanks};
@@ -52,7 +53,7 @@ pub(crate) enum QueryKind {
 impl QueryKind {
     // The kind that a word names.
     fn named(word: &[u8]) -> Option<QueryKind>
-        ensures { result ≡ kind_of word.now }
+        ensures { result ≡ query_kind word.now }
     {
         if word == b"title".as_slice() {
             Some(QueryKind::Title)

@@ -4,7 +4,7 @@ use Rattle.index_keys.specs.Entries.{AllFit, Entry}
 use Rattle.tune_incipit.specs.ScaleAndIncipitKeys.{incipit_keys}
 use Rattle.tune_index.specs.Indexes.{Shape}
 use Rattle.tune_search.specs.IndexParts.{IndexParts, KeepsIndex}
-use Rattle.tune_search.specs.Inside.TextEntries.{entries_at}
+use Rattle.tune_search.specs.Inside.TextEntries.{entries_at_keys}
 use Rattle.tune_search.specs.Searches.{HoldsKeys, IsRunOf, incipit_bytes}
 use Rattle.tune_search.proofs.TextRuns.{Gathered, gathered_more}
 
@@ -24,10 +24,10 @@ notes_hold n m tunes shape parts same h = subst (λ (k : ℕ). HoldsKeys (incipi
 
 -- one text more
 pub notes_more : (first i : ℕ) (texts : List (List ℕ)) (text : List ℕ) (own n : ℕ) (run next : List Entry)
-    → i < length texts → text ≡ get_or texts i text → own ≡ n → next ≡ run ++ entries_at (first + i) (incipit_keys own text)
+    → i < length texts → text ≡ get_or texts i text → own ≡ n → next ≡ run ++ entries_at_keys (first + i) (incipit_keys own text)
     → (AllFit (incipit_bytes own) run → AllFit (incipit_bytes own) next) → Gathered (incipit_bytes n) (incipit_keys n) first i texts run
     → Gathered (incipit_bytes n) (incipit_keys n) first (i + 1) texts next
 notes_more first i texts text own n run next l is same added fit so_far =
     gathered_more (incipit_bytes n) (incipit_keys n) first i texts text (incipit_keys n text) run next l is refl
-    (subst (λ (k : ℕ). next ≡ run ++ entries_at (first + i) (incipit_keys k text)) same added)
+    (subst (λ (k : ℕ). next ≡ run ++ entries_at_keys (first + i) (incipit_keys k text)) same added)
     (subst (λ (k : ℕ). AllFit (incipit_bytes k) run → AllFit (incipit_bytes k) next) same fit) so_far

@@ -11,8 +11,8 @@ use Rattle.tune_incipit.specs.ScaleAndIncipitKeys.{incipit_keys, scale_keys}
 use Rattle.tune_index.specs.Indexes.{KeepsBalance, Shape}
 use Rattle.tune_parts.specs.Parts.{Part}
 use Rattle.tune_search.specs.IndexParts.{HoldsIndexAmong, IndexParts, LaysIndex}
-use Rattle.tune_search.specs.Inside.Four.{HoldsFour, entry_count, put_in}
-use Rattle.tune_search.specs.SearchPages.{leaves_of, most_entries}
+use Rattle.tune_search.specs.Inside.Four.{HoldsFour, entry_count, runs_put_in}
+use Rattle.tune_search.specs.SearchPages.{leaf_count, most_entries}
 use Rattle.tune_search.specs.Searches.{AreRunsOf, HoldsKeys, HoldsTexts, IsRunOf, SearchParts, SearchRuns, SearchShape}
 use Rattle.tune_search.specs.Searches.{incipit_bytes, key_bytes}
 use Rattle.tune_search.proofs.FewEntries.{few_among, few_by_incipit, few_by_rhythm, few_by_scale, few_by_title}
@@ -30,7 +30,7 @@ IsFullFor width s shape change = (before after : List Part) (parts : IndexParts)
 
 abbrev pub AreFullFor : Stand → SearchShape → (SearchRuns → SearchRuns) → Type 0
 AreFullFor s shape change = (before after : List Part) (parts : SearchParts) (entries : SearchRuns)
-    → HoldsFour s shape before after parts entries → free_pages s.used + leaves_of shape < entry_count (change entries)
+    → HoldsFour s shape before after parts entries → free_pages s.used + leaf_count shape < entry_count (change entries)
 
 -- no entries are lost
 abbrev pub Grows : (List Entry → List Entry) → Type 0
@@ -118,7 +118,7 @@ module _ (width : ℕ) (keys_of : List ℕ → List ℕ) (tunes more : List (ℕ
 
 pub few_more : (s : Stand) (shape : SearchShape) (runs : SearchRuns) (before after : List Part) (parts : SearchParts) (tunes more : List (ℕ × List ℕ))
     → AreSmall tunes → AreSmall more → runs.notes ≡ shape.notes → AreRunsOf more runs → (h : HoldsTexts s shape before after parts tunes)
-    → entry_count (put_in runs (entries_of_texts s shape before after parts tunes h)) ≤ most_entries * length (tunes ++ more)
+    → entry_count (runs_put_in runs (entries_of_texts s shape before after parts tunes h)) ≤ most_entries * length (tunes ++ more)
 few_more s shape runs before after parts tunes more small also same are h =
     let all = tunes ++ more in
     let titles = few_by_title all (inserted_all runs.titles h.titles.entries)
@@ -139,9 +139,9 @@ few_more s shape runs before after parts tunes more small also same are h =
     omega arith
 
 -- so many pages are free
-pub full_for_texts : (s : Stand) (shape : SearchShape) (runs : SearchRuns) → runs.notes ≡ shape.notes → AreFullFor s shape (λ entries. put_in runs entries)
+pub full_for_texts : (s : Stand) (shape : SearchShape) (runs : SearchRuns) → runs.notes ≡ shape.notes → AreFullFor s shape (λ entries. runs_put_in runs entries)
     → (before after : List Part) (parts : SearchParts) (tunes more : List (ℕ × List ℕ)) → AreSmall tunes → AreSmall more → AreRunsOf more runs
-    → HoldsTexts s shape before after parts tunes → free_pages s.used + leaves_of shape < most_entries * length (tunes ++ more)
+    → HoldsTexts s shape before after parts tunes → free_pages s.used + leaf_count shape < most_entries * length (tunes ++ more)
 full_for_texts s shape runs same full before after parts tunes more small also are h =
     let entries = entries_of_texts s shape before after parts tunes h in
     let none = full before after parts entries (texts_four s shape before after parts tunes h) in
@@ -152,5 +152,5 @@ full_for_texts s shape runs same full before after parts tunes more small also a
 -- what each keeps of how many pages are free
 pub four_balance : (s0 s1 s2 s3 s4 : Stand) (was is : SearchShape) → KeepsBalance s0 s1 was.titles.pages is.titles.pages
     → KeepsBalance s1 s2 was.rhythms.pages is.rhythms.pages → KeepsBalance s2 s3 was.scales.pages is.scales.pages
-    → KeepsBalance s3 s4 was.incipits.pages is.incipits.pages → free_pages s0.used + leaves_of was ≡ free_pages s4.used + leaves_of is
+    → KeepsBalance s3 s4 was.incipits.pages is.incipits.pages → free_pages s0.used + leaf_count was ≡ free_pages s4.used + leaf_count is
 four_balance s0 s1 s2 s3 s4 was is one two three four = omega arith

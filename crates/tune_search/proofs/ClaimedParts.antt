@@ -4,7 +4,7 @@ use Rattle.std.specs.List.{AllByRecursion}
 use Rattle.tune_journal.specs.Pages.{page_at}
 use Rattle.tune_pages.specs.Frame.{AllApart}
 use Rattle.tune_pages.specs.Stand.{AllFree, marked}
-use Rattle.tune_index.specs.ListedLeaves.{shown}
+use Rattle.tune_index.specs.ListedLeaves.{stand_of_pages}
 use Rattle.tune_parts.specs.Parts.{AreParts, IsPart, Part, leaf_part, root_and_trails, trails}
 use Rattle.tune_parts.proofs.Lists.{all_join, all_left, all_right}
 use Rattle.tune_parts.proofs.Once.{EachFree, free_once, marked_append, none_free, past_free}
@@ -85,6 +85,6 @@ leaves_stand pages (p ∷ ps) there = (
   leaves_stand pages ps there.1,
 )
 
-pub leaves_are : (pages : List (List ℕ)) (ps : List ℕ) → map (λ page. leaf_part page (page_at pages page)) ps ≡ leaf_parts (shown pages) ps
+pub leaves_are : (pages : List (List ℕ)) (ps : List ℕ) → map (λ page. leaf_part page (page_at pages page)) ps ≡ leaf_parts (stand_of_pages pages) ps
 leaves_are pages [] = refl
 leaves_are pages (p ∷ ps) = ap (λ (l : List Part). leaf_part p (page_at pages p) ∷ l) (leaves_are pages ps)

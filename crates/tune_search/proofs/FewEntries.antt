@@ -12,7 +12,7 @@ use Rattle.abc_fields.specs.Fields.{key_text_of, rhythm_of, titles_of}
 use Rattle.abc_fields.specs.Limits.{most_titles}
 use Rattle.abc_keys.specs.declared.scales.Scale.{Scale}
 use Rattle.index_keys.specs.Cuts.{cut_number}
-use Rattle.index_keys.specs.Entries.{Entry, IsRising, rank, RisesFrom}
+use Rattle.index_keys.specs.Entries.{Entry, IsRising, rank, EntriesRiseFrom}
 use Rattle.index_keys.specs.Holdings.{HoldsEntries}
 use Rattle.index_keys.proofs.KeyOrder.{with_front, with_later, with_there}
 use Rattle.index_keys.proofs.Members.{contains_cases, contains_first, contains_later, contains_none}
@@ -24,7 +24,7 @@ use Rattle.tune_index.proofs.Beside.{few_leaves}
 use Rattle.tune_index.specs.Indexes.{Shape}
 use Rattle.tune_parts.specs.Parts.{Part}
 use Rattle.tune_search.specs.IndexParts.{HoldsIndexAmong, IndexParts}
-use Rattle.tune_search.specs.Inside.TextEntries.{entries_at, entries_of_tunes}
+use Rattle.tune_search.specs.Inside.TextEntries.{entries_at_keys, entries_of_tunes}
 use Rattle.tune_search.specs.SearchPages.{HasFewLeaves}
 use Rattle.tune_search.specs.Searches.{HoldsTexts, SearchParts, SearchShape, incipit_bytes, key_bytes}
 use Rattle.tune_search.proofs.AmongLemmas.{among_entries, among_index, incipits_among, rhythms_among, scales_among, titles_among}
@@ -60,7 +60,7 @@ without (x ∷ xs) e at = elim (contains_cases x xs e at) [
 ]
 
 -- an entry of a list that rises is no lower
-rises_each : (low : ℕ) (es : List Entry) (y : Entry) → RisesFrom low es → Contains es y → low ≤ rank y
+rises_each : (low : ℕ) (es : List Entry) (y : Entry) → EntriesRiseFrom low es → Contains es y → low ≤ rank y
 rises_each low [] y up at = absurd (contains_none y at)
 rises_each low (e ∷ es) y up at = elim (contains_cases e es y at) [
   | inl here ↦ subst (λ (z : Entry). low ≤ rank z) here up.0
@@ -71,7 +71,7 @@ higher : (e y : Entry) → rank e + 1 ≤ rank y → e ≡ y → ⊥
 higher e y over same = let none : rank y + 1 ≤ rank y = subst (λ (z : Entry). rank z + 1 ≤ rank y) same over in omega arith
 
 -- entries that rise are no more than the list that has them all
-rising_few : (low : ℕ) (es all : List Entry) → RisesFrom low es → ((e : Entry) → Contains es e → Contains all e) → length es ≤ length all
+rising_few : (low : ℕ) (es all : List Entry) → EntriesRiseFrom low es → ((e : Entry) → Contains es e → Contains all e) → length es ≤ length all
 rising_few low [] all up among = omega arith
 rising_few low (e ∷ es) all up among =
     let less = without all e (among e (contains_first e es)) in
@@ -81,7 +81,7 @@ rising_few low (e ∷ es) all up among =
     omega arith
 
 -- ENTRIES OF TUNES
-length_at : (number : ℕ) (keys : List ℕ) → length (entries_at number keys) ≡ length keys
+length_at : (number : ℕ) (keys : List ℕ) → length (entries_at_keys number keys) ≡ length keys
 length_at number keys = length-map keys (λ (key : ℕ). (key, number))
 
 one_more : (most n k rest : ℕ) → k ≤ most → rest ≤ most * n → k + rest ≤ most * suc n
@@ -91,7 +91,7 @@ all_few : (keys_of : List ℕ → List ℕ) (most : ℕ) → ((text : List ℕ) 
     → length (entries_of_tunes keys_of tunes) ≤ most * length tunes
 all_few keys_of most few [] = omega arith
 all_few keys_of most few (tune ∷ tunes) =
-    rw (length-append (entries_at tune.0 (keys_of tune.1)) (entries_of_tunes keys_of tunes), length_at tune.0 (keys_of tune.1))
+    rw (length-append (entries_at_keys tune.0 (keys_of tune.1)) (entries_of_tunes keys_of tunes), length_at tune.0 (keys_of tune.1))
     (one_more most (length tunes) (length (keys_of tune.1)) (length (entries_of_tunes keys_of tunes)) (few tune.1) (all_few keys_of most few tunes))
 
 pub few_entries : (keys_of : List ℕ → List ℕ) (most : ℕ) → ((text : List ℕ) → length (keys_of text) ≤ most) → (tunes : List (ℕ × List ℕ)) (es : List Entry)

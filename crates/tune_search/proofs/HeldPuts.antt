@@ -8,25 +8,26 @@ use Rattle.index_keys.specs.Entries.{Entry, IsRising, rank}
 use Rattle.index_keys.proofs.RisingEntries.{rises_push}
 use Rattle.tune_search.specs.declared.held_keys.HeldKey.{HeldKey}
 use Rattle.tune_search.specs.declared.held_keys.HeldKey.TheVariants as held
-use Rattle.tune_search.specs.HeldShapes.{AreHeldEntries, IsKept, whole_entry, whole_key}
+use Rattle.tune_search.specs.HeldShapes.{AreHeldEntries, IsKeptKey, whole_entry, whole_key}
 
 -- MORE KEYS KEPT WHOLE
 -- they change no key that was held before
-key_stays : (width : ℕ) (others more : List ℕ) (key : HeldKey) → IsKept (length others) key → whole_key width (others ++ more) key ≡ whole_key width others key
+key_stays : (width : ℕ) (others more : List ℕ) (key : HeldKey) → IsKeptKey (length others) key → whole_key width (others ++ more) key
+    ≡ whole_key width others key
 key_stays width others more (held.Steps steps) kept = refl
 key_stays width others more (held.Other place) kept = get_or_append_left others more 0 place kept
 
-kept_on : (n m : ℕ) (key : HeldKey) → n ≤ m → IsKept n key → IsKept m key
+kept_on : (n m : ℕ) (key : HeldKey) → n ≤ m → IsKeptKey n key → IsKeptKey m key
 kept_on n m (held.Steps steps) up kept = tt
 kept_on n m (held.Other place) up kept = omega (arith, up, kept)
 
-entries_stay : (width : ℕ) (others more : List ℕ) (es : List (HeldKey × ℕ)) → AllByRecursion (λ entry. IsKept (length others) entry.0) es
+entries_stay : (width : ℕ) (others more : List ℕ) (es : List (HeldKey × ℕ)) → AllByRecursion (λ entry. IsKeptKey (length others) entry.0) es
     → map (whole_entry width (others ++ more)) es ≡ map (whole_entry width others) es
 entries_stay width others more [] kept = refl
 entries_stay width others more (e ∷ es) kept = λ i. (key_stays width others more e.0 kept.0 i, e.1) ∷ entries_stay width others more es kept.1 i
 
-all_kept : (n m : ℕ) (es : List (HeldKey × ℕ)) (e : HeldKey × ℕ) → n ≤ m → AllByRecursion (λ entry. IsKept n entry.0) es → IsKept m e.0
-    → AllByRecursion (λ entry. IsKept m entry.0) (es ++ e ∷ [])
+all_kept : (n m : ℕ) (es : List (HeldKey × ℕ)) (e : HeldKey × ℕ) → n ≤ m → AllByRecursion (λ entry. IsKeptKey n entry.0) es → IsKeptKey m e.0
+    → AllByRecursion (λ entry. IsKeptKey m entry.0) (es ++ e ∷ [])
 all_kept n m [] e up kept own = (own, tt)
 all_kept n m (x ∷ es) e up kept own = (kept_on n m x.0 up kept.0, all_kept n m es e up kept.1 own)
 
@@ -37,7 +38,7 @@ pub record IsPut (width : ℕ) (es now : List (HeldKey × ℕ)) (others whole : 
 
 pub is_put : (width : ℕ) (es now : List (HeldKey × ℕ)) (others more whole : List ℕ) (last : Entry) (own : HeldKey) (key value : ℕ)
     → AreHeldEntries width es others last → now ≡ es ++ (own, value) ∷ [] → whole ≡ others ++ more → length more ≤ 1
-    → whole_key width whole own ≡ key → IsKept (length whole) own
+    → whole_key width whole own ≡ key → IsKeptKey (length whole) own
     → IsPut width es now others whole (key, value)
 is_put width es now others more whole last own key value before is all few same kept =
     let long : length whole ≡ length others + length more = ap length all ∙ length-append others more in
@@ -51,7 +52,7 @@ is_put width es now others more whole last own key value before is all few same 
     record {
       entries = entries;
       held = record {
-        kept = subst (λ (l : List (HeldKey × ℕ)). AllByRecursion (λ entry. IsKept (length whole) entry.0) l) (sym is)
+        kept = subst (λ (l : List (HeldKey × ℕ)). AllByRecursion (λ entry. IsKeptKey (length whole) entry.0) l) (sym is)
             (all_kept (length others) (length whole) es (own, value) (omega (arith, long)) before.kept kept);
         few = omega (arith, long, count, room, few);
         is_last = λ i at.

@@ -12,7 +12,7 @@ use Rattle.tune_pages.specs.Kept.{Kept}
 use Rattle.tune_pages.specs.PageLooks.{SameKept}
 use Rattle.tune_pages.specs.Work.{stand, Fits}
 use Rattle.tune_pages.specs.declared.work.Work.{Work}
-use Rattle.tune_pages.specs.Chain.{IsChain, Leads, next_of}
+use Rattle.tune_pages.specs.Chain.{IsChain, Leads, next_page_of}
 use Rattle.tune_journal.specs.Pages.{page_at}
 use Rattle.std.proofs.lemmas.List.{append-nil}
 use Rattle.std.proofs.lemmas.List.Elements.{All-nil, All-cons}
@@ -187,7 +187,7 @@ laid width old new was is before after parts entries more h list pages trades in
 leads_some : (pages : List (List ℕ)) (first : ℕ) (trail : List ℕ) → Leads pages first trail 0 → All (λ p. p ≢ 0) trail
 leads_some pages first [] leads = All-nil (λ p. p ≢ 0)
 leads_some pages first (p ∷ trail) leads = All-cons (λ q. q ≢ 0) p trail (λ is. absurd (omega (arith, is, leads.1)))
-    (leads_some pages (next_of (page_at pages p)) trail leads.4)
+    (leads_some pages (next_page_of (page_at pages p)) trail leads.4)
 
 -- The list was stored.
 pub listed : (width : ℕ) (old new : Stand) (was is : Shape) (before after : List Part) (parts : IndexParts) (entries : List Entry)

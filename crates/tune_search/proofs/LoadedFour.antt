@@ -4,7 +4,7 @@ use Rattle.index_keys.specs.Entries.{Entry}
 use Rattle.tune_index.specs.Indexes.{Shape}
 use Rattle.tune_index.specs.ListedLeaves.{LoadsIndex, index_with, pages_claimed}
 use Rattle.tune_parts.specs.Parts.{AreParts, Part}
-use Rattle.tune_search.specs.LoadedParts.{ClaimsParts, HasClaimed, HoldEachAtMost, HoldsAtMost, HoldsLoadedSearch, firsts_of, parts_loaded}
+use Rattle.tune_search.specs.LoadedParts.{ClaimsParts, HasClaimed, HoldEachAtMost, HoldsAtMost, HoldsLoadedSearch, search_firsts_of, parts_loaded}
 use Rattle.tune_search.specs.LoadedParts.{search_loaded}
 use Rattle.tune_search.specs.IndexParts.{IndexParts, parts_of_index}
 use Rattle.tune_search.specs.Loaded.{AreStored, IsStoredThen, LoadsSearch, search_with}
@@ -66,7 +66,7 @@ there_then most pages claimed parts entries front more Then are marks holds then
 
 pub there_four : (most : ℕ) (pages : List (List ℕ)) (claimed : List Bool) (parts : SearchParts) (entries : SearchRuns) (front more : List Part)
     → AreParts pages (front ++ (parts_of_search parts ++ more)) → ClaimsParts pages claimed front → HoldEachAtMost most parts entries
-    → AreStored entries.notes most pages claimed (firsts_of parts)
+    → AreStored entries.notes most pages claimed (search_firsts_of parts)
 there_four most pages claimed parts entries front more are marks hold =
     let a : List Part = parts_of_index parts.titles in
     let b : List Part = parts_of_index parts.rhythms in
@@ -112,7 +112,7 @@ pub same_four : (most : ℕ) (pages : List (List ℕ)) (claimed after : List Boo
     (loads : LoadsSearch most (pages_claimed pages claimed) after firsts (search_with shape entries)) (other : SearchParts) (others : SearchRuns)
     (front more : List Part)
     → length claimed < 256 ^ 4 → AreParts pages (front ++ (parts_of_search other ++ more)) → ClaimsParts pages claimed front
-    → others.notes ≡ entries.notes → HoldEachAtMost most other others → firsts_of other ≡ firsts → (other ≡ search_loaded loads) × (others ≡ entries)
+    → others.notes ≡ entries.notes → HoldEachAtMost most other others → search_firsts_of other ≡ firsts → (other ≡ search_loaded loads) × (others ≡ entries)
 same_four most pages claimed after firsts shape entries loads other others front more few are marks notes hold begin =
     let a : List Part = parts_of_index other.titles in
     let b : List Part = parts_of_index other.rhythms in

@@ -4,7 +4,7 @@ use Rattle.std.specs.List.{AllByRecursion}
 use Rattle.index_keys.specs.Entries.{Entry, IsRising}
 use Rattle.tune_index.specs.Indexes.{Shape, entries_of}
 use Rattle.tune_index.specs.Leaves.{leaf_in, slice_entry}
-use Rattle.tune_index.specs.ListedLeaves.{IsStored, LoadsIndex, StoredIndex, shown, index_with, pages_claimed}
+use Rattle.tune_index.specs.ListedLeaves.{IsStored, LoadsIndex, StoredIndex, stand_of_pages, index_with, pages_claimed}
 use Rattle.tune_pages.specs.Chain.{IsChain}
 use Rattle.tune_pages.specs.Stand.{AllFree, marked}
 use Rattle.tune_parts.specs.Parts.{AreParts, IsPart, Part, trails}
@@ -23,7 +23,7 @@ module _ (width most : ℕ) (pages : List (List ℕ)) (claimed after : List Bool
     (loads : LoadsIndex width most (pages_claimed pages claimed) after first (index_with shape entries)) where
   -- the pages that it runs through
   loaded_pages : trails (parts_of_index (parts_loaded loads)) ≡ loads.trail ++ shape.pages
-  loaded_pages = ap (λ (l : List ℕ). loads.trail ++ l) (ap trails (leaves_are pages shape.pages) ∙ trails_leaves (shown pages) shape.pages)
+  loaded_pages = ap (λ (l : List ℕ). loads.trail ++ l) (ap trails (leaves_are pages shape.pages) ∙ trails_leaves (stand_of_pages pages) shape.pages)
 
   pub loaded_claims : ClaimsParts pages claimed front → ClaimsParts pages after (front ++ parts_of_index (parts_loaded loads))
   loaded_claims marks = loads.marks ∙ sym (marked_append true loads.trail shape.pages claimed)
@@ -52,20 +52,20 @@ held_loaded width most pages claimed after first shape entries front has loads =
   };
   keeps = record {
     is_chain = refl;
-    leaves = subst (λ (l : List Part). AllByRecursion (IsLeafPart width) l) (sym are) (form_leaves width (shown pages) shape.pages loads.stored.form);
+    leaves = subst (λ (l : List Part). AllByRecursion (IsLeafPart width) l) (sym are) (form_leaves width (stand_of_pages pages) shape.pages loads.stored.form);
     first = loads.begins;
-    pages = sym (ap (λ (l : List Part). map (λ part. part.first) l) are ∙ firsts_leaves (shown pages) shape.pages);
+    pages = sym (ap (λ (l : List Part). map (λ part. part.first) l) are ∙ firsts_leaves (stand_of_pages pages) shape.pages);
     heads = loads.heads ∙ sym (ap (λ (l : List Part). map (λ part. slice_entry (leaf_in width part.bytes) 0) l) are
-        ∙ heads_leaves width (shown pages) shape.pages);
+        ∙ heads_leaves width (stand_of_pages pages) shape.pages);
     listed = λ l. refl;
-    hold = ap (entries_of_parts width) are ∙ entries_leaves width (shown pages) shape.pages ∙ sym loads.are;
+    hold = ap (entries_of_parts width) are ∙ entries_leaves width (stand_of_pages pages) shape.pages ∙ sym loads.are;
     rising = subst (λ (es : List Entry). IsRising es) (sym loads.are) loads.stored.rising;
     fit = loads.fit;
   };
   begins = refl;
 }
   where
-    are : (parts_loaded loads).leaves ≡ leaf_parts (shown pages) shape.pages
+    are : (parts_loaded loads).leaves ≡ leaf_parts (stand_of_pages pages) shape.pages
     are = leaves_are pages shape.pages
 
 -- WHAT STANDS THERE
@@ -75,11 +75,11 @@ pages_of parts = map (λ part. part.first) parts.leaves
 
 module _ (width most : ℕ) (pages : List (List ℕ)) (parts : IndexParts) (entries : List Entry) (front more : List Part)
     (are : AreParts pages (front ++ (parts_of_index parts ++ more))) (holds : HoldsAtMost width most parts entries) where
-  leaves_there : parts.leaves ≡ leaf_parts (shown pages) (pages_of parts)
-  leaves_there = leaves_back width (shown pages) parts.leaves (stand_there pages front (parts_of_index parts) more are).1 holds.holds.leaves
+  leaves_there : parts.leaves ≡ leaf_parts (stand_of_pages pages) (pages_of parts)
+  leaves_there = leaves_back width (stand_of_pages pages) parts.leaves (stand_there pages front (parts_of_index parts) more are).1 holds.holds.leaves
 
-  entries_there : entries_of width (shown pages) (pages_of parts) ≡ entries
-  entries_there = sym (entries_leaves width (shown pages) (pages_of parts)) ∙ ap (entries_of_parts width) (sym leaves_there) ∙ holds.holds.hold
+  entries_there : entries_of width (stand_of_pages pages) (pages_of parts) ≡ entries
+  entries_there = sym (entries_leaves width (stand_of_pages pages) (pages_of parts)) ∙ ap (entries_of_parts width) (sym leaves_there) ∙ holds.holds.hold
 
   -- the parts are those of its pages
   parts_there : parts ≡ index_parts pages parts.list.first parts.list.trail (pages_of parts)
@@ -89,7 +89,7 @@ module _ (width most : ℕ) (pages : List (List ℕ)) (parts : IndexParts) (entr
   }
 
   pages_own : trails (parts_of_index parts) ≡ parts.list.trail ++ pages_of parts
-  pages_own = ap (λ (l : List ℕ). parts.list.trail ++ l) (ap trails leaves_there ∙ trails_leaves (shown pages) (pages_of parts))
+  pages_own = ap (λ (l : List ℕ). parts.list.trail ++ l) (ap trails leaves_there ∙ trails_leaves (stand_of_pages pages) (pages_of parts))
 
   free_own : (claimed : List Bool) → ClaimsParts pages claimed front → AllFree (parts.list.trail ++ pages_of parts) claimed
   free_own claimed marks =
@@ -105,7 +105,7 @@ module _ (width most : ℕ) (pages : List (List ℕ)) (parts : IndexParts) (entr
       free = free_front parts.list.trail (pages_of parts) claimed (free_own claimed marks);
     };
     free = free_behind parts.list.trail (pages_of parts) claimed (free_own claimed marks);
-    form = leaves_form width (shown pages) (pages_of parts)
+    form = leaves_form width (stand_of_pages pages) (pages_of parts)
         (subst (λ (l : List Part). AllByRecursion (IsLeafPart width) l) leaves_there holds.holds.leaves);
     rising = subst (λ (es : List Entry). IsRising es) (sym entries_there) holds.holds.rising;
     few = subst (λ (es : List Entry). length es ≤ most) (sym entries_there) holds.few;
@@ -137,6 +137,6 @@ same_loaded width most pages claimed after first shape entries loads other other
     let parts : index_parts pages other.list.first other.list.trail (pages_of other) ≡ parts_loaded loads
     = λ i. index_parts pages (begins i) (once.0 i) (once.1 i) in (
       parts_there width most pages other others front more are holds ∙ parts,
-      sym (entries_there width most pages other others front more are holds) ∙ ap (λ (l : List ℕ). entries_of width (shown pages) l) once.1
+      sym (entries_there width most pages other others front more are holds) ∙ ap (λ (l : List ℕ). entries_of width (stand_of_pages pages) l) once.1
           ∙ sym loads.are,
     )

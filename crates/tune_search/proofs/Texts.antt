@@ -8,7 +8,7 @@ use Rattle.tune_index.specs.Indexes.{Shape}
 use Rattle.tune_pages.specs.Stand.{Stand}
 use Rattle.tune_parts.specs.Parts.{Part}
 use Rattle.tune_search.specs.IndexParts.{IndexParts, KeepsIndex}
-use Rattle.tune_search.specs.Inside.Four.{HoldsFour, HoldsSomeFour, LaysFour, put_in, taken_out}
+use Rattle.tune_search.specs.Inside.Four.{HoldsFour, HoldsSomeFour, LaysFour, runs_put_in, taken_out}
 use Rattle.tune_search.specs.Searches.{AreRunsOf, HoldsKeys, HoldsSomeTexts, HoldsTexts, IsRunOf, SearchParts, SearchRuns, SearchShape}
 use Rattle.tune_search.specs.Searches.{incipit_bytes, key_bytes}
 use Rattle.tune_search.proofs.AsManyNotes.{notes_hold, notes_keeps, notes_run}
@@ -43,7 +43,7 @@ keys_more width keys_of tunes more was is parts next run small also are h keeps 
 }
 
 pub texts_more : (old new : Stand) (was is : SearchShape) (runs : SearchRuns) → runs.notes ≡ was.notes → is.notes ≡ was.notes
-    → LaysFour old new was is (λ entries. put_in runs entries)
+    → LaysFour old new was is (λ entries. runs_put_in runs entries)
     → (before after : List Part) (parts : SearchParts) (tunes more : List (ℕ × List ℕ)) → AreSmall tunes → AreSmall more → AreRunsOf more runs
     → HoldsTexts old was before after parts tunes → (next : SearchParts) × HoldsTexts new is before after next (tunes ++ more)
 texts_more old new was is runs same_run same lays before after parts tunes more small also are h =

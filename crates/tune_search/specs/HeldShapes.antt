@@ -28,15 +28,15 @@ abbrev pub held_entries : ℕ → HeldShape → List Entry
 held_entries width shape = map (whole_entry width shape.others) shape.entries
 
 -- A key is that of steps, or one of so many that are kept whole.
-abbrev pub IsKept : ℕ → HeldKey → Type 0
-IsKept count (held.Steps steps) = Unit {0}
-IsKept count (held.Other place) = place < count
+abbrev pub IsKeptKey : ℕ → HeldKey → Type 0
+IsKeptKey count (held.Steps steps) = Unit {0}
+IsKeptKey count (held.Other place) = place < count
 
 -- Each key is there, no more keys are kept whole than there are entries, and this is the last
 -- entry, where there is one.
 pub record AreHeldEntries (width : ℕ) (entries : List (HeldKey × ℕ)) (others : List ℕ)
     (last : Entry) : Type 0 where
-  pub kept : AllByRecursion (λ entry. IsKept (length others) entry.0) entries
+  pub kept : AllByRecursion (λ entry. IsKeptKey (length others) entry.0) entries
   pub few : length others ≤ length entries
   pub is_last : (i : ℕ) → i + 1 ≡ length entries
       → last ≡ slice_index_or (map (whole_entry width others) entries) i last

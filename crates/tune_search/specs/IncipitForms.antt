@@ -13,9 +13,9 @@ use Rattle.tune_search.specs.declared.incipit_index.IncipitIndex.{IncipitIndex}
 use Rattle.tune_search.specs.declared.incipit_index.IncipitIndex.TheVariants as form
 
 -- how many notes
-abbrev pub notes_in : IncipitNotes → ℕ
-notes_in choice.Eight = 8
-notes_in choice.Twelve = 12
+abbrev pub note_count : IncipitNotes → ℕ
+note_count choice.Eight = 8
+note_count choice.Twelve = 12
 
 -- ENTRIES
 -- by how many notes they are
@@ -24,9 +24,9 @@ notes_of_entries (list.Eight run) = 8
 notes_of_entries (list.Twelve run) = 12
 
 -- their list
-abbrev pub entries_in : IncipitEntries → List Entry
-entries_in (list.Eight run) = run.items
-entries_in (list.Twelve run) = run.items
+abbrev pub entries_of_incipits : IncipitEntries → List Entry
+entries_of_incipits (list.Eight run) = run.items
+entries_of_incipits (list.Twelve run) = run.items
 
 -- HELD ENTRIES
 -- by how many notes they are

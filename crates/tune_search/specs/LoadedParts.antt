@@ -52,8 +52,8 @@ pub record HoldsLoaded (width : ℕ) (now : ClaimedPages) (front : List Part) (f
 
 -- FOUR INDEXES
 -- where the lists of four indexes begin
-abbrev pub firsts_of : SearchParts → SearchFirsts
-firsts_of parts = record {
+abbrev pub search_firsts_of : SearchParts → SearchFirsts
+search_firsts_of parts = record {
   titles = parts.titles.list.first;
   rhythms = parts.rhythms.list.first;
   scales = parts.scales.list.first;
@@ -88,4 +88,4 @@ pub record HoldsLoadedSearch (now : ClaimedPages) (front : List Part) (firsts : 
   pub scales : KeepsIndex key_bytes loaded.shape.scales parts.scales loaded.runs.scales
   pub incipits : KeepsIndex (incipit_bytes loaded.shape.notes) loaded.shape.incipits
       parts.incipits loaded.runs.incipits
-  pub begin : firsts_of parts ≡ firsts
+  pub begin : search_firsts_of parts ≡ firsts

@@ -7,8 +7,8 @@ use Rattle.tune_search.specs.declared.loading.SearchFirsts.{SearchFirsts}
 
 -- LEAVES
 -- how many leaves the four have
-abbrev pub leaves_of : SearchShape → ℕ
-leaves_of shape = length shape.titles.pages + length shape.rhythms.pages
+abbrev pub leaf_count : SearchShape → ℕ
+leaf_count shape = length shape.titles.pages + length shape.rhythms.pages
     + length shape.scales.pages + length shape.incipits.pages
 
 -- how many entries a tune has at most: one for each title, and one of each other kind

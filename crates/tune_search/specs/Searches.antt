@@ -19,9 +19,9 @@ incipit_bytes notes = 4 * notes
 
 -- TUNES
 -- texts with their numbers: these from one on
-abbrev pub numbered : ℕ → List (List ℕ) → List (ℕ × List ℕ)
-numbered first [] = []
-numbered first (text ∷ texts) = (first, text) ∷ numbered (first + 1) texts
+abbrev pub texts_numbered : ℕ → List (List ℕ) → List (ℕ × List ℕ)
+texts_numbered first [] = []
+texts_numbered first (text ∷ texts) = (first, text) ∷ texts_numbered (first + 1) texts
 
 -- WHAT MEMORY HAS
 -- the four indexes, as contracts see them, and by how many notes incipits are kept

@@ -10,8 +10,8 @@ ghost use Rattle.index_keys.specs.Holdings.{AreSmall, IsWithout};
 ghost use Rattle.tune_index.specs.IndexAnswers.{AnswersEdit};
 ghost use Rattle.tune_parts.specs.Parts.{Part};
 ghost use Rattle.tune_search.specs.Inside.Four.{HoldsFour, HoldsSomeFour, LaysFour, entry_count};
-ghost use Rattle.tune_search.specs.Inside.Four.{put_in, taken_out};
-ghost use Rattle.tune_search.specs.SearchPages.{leaves_of, most_entries};
+ghost use Rattle.tune_search.specs.Inside.Four.{runs_put_in, taken_out};
+ghost use Rattle.tune_search.specs.SearchPages.{leaf_count, most_entries};
 ghost use Rattle.tune_search.specs.Searches.{AreRunsOf, HoldsSomeTexts, HoldsTexts, SearchParts};
 ghost use Rattle.tune_search.specs.Searches.{SearchRuns};
 
@@ -43,16 +43,16 @@ fn put_runs<D: Disk>(
     ensures notes { OnOk result (indexes.new.notes ≡ indexes.old.notes) }
     ensures lays { OnOk result (HonestAt D.honest pages.new.disk → LaysFour
         (stand pages.old work.old) (stand pages.new work.new) indexes.old indexes.new
-        (λ entries. put_in runs.now entries)) }
+        (λ entries. runs_put_in runs.now entries)) }
     ensures balance { OnOk result (free_pages (stand pages.old work.old).used
-        + leaves_of indexes.old ≡ free_pages (stand pages.new work.new).used
-        + leaves_of indexes.new) }
+        + leaf_count indexes.old ≡ free_pages (stand pages.new work.new).used
+        + leaf_count indexes.new) }
     ensures looks { LooksAt D.honest D.failures D.state result pages.old pages.new }
     ensures answer { AnswersEdit result pages.new.closed (HonestAt D.honest pages.new.disk
         → (before after : List Part) (parts : SearchParts) (entries : SearchRuns)
         → HoldsFour (stand pages.old work.old) indexes.old before after parts entries
-        → free_pages (stand pages.old work.old).used + leaves_of indexes.old
-        < entry_count (put_in runs.now entries)) }
+        → free_pages (stand pages.old work.old).used + leaf_count indexes.old
+        < entry_count (runs_put_in runs.now entries)) }
 {
     match put_run(alloc, pages, work, &mut indexes.titles, &runs.titles) {
         Ok(()) => {}
@@ -92,8 +92,8 @@ fn take_runs<D: Disk>(
         (stand pages.old work.old) (stand pages.new work.new) indexes.old indexes.new
         (λ entries. taken_out runs.now entries)) }
     ensures balance { OnOk result (free_pages (stand pages.old work.old).used
-        + leaves_of indexes.old ≡ free_pages (stand pages.new work.new).used
-        + leaves_of indexes.new) }
+        + leaf_count indexes.old ≡ free_pages (stand pages.new work.new).used
+        + leaf_count indexes.new) }
     ensures looks { LooksAt D.honest D.failures D.state result pages.old pages.new }
     ensures answer { AnswersEdit result pages.new.closed ⊥ }
 {
@@ -146,14 +146,14 @@ impl SearchIndexes {
             → (next : SearchParts) × HoldsTexts (stand pages.new work.new) self.new
             before after next (tunes ++ more)) }
         ensures balance { OnOk result (free_pages (stand pages.old work.old).used
-            + leaves_of self.old ≡ free_pages (stand pages.new work.new).used
-            + leaves_of self.new) }
+            + leaf_count self.old ≡ free_pages (stand pages.new work.new).used
+            + leaf_count self.new) }
         ensures looks { LooksAt D.honest D.failures D.state result pages.old pages.new }
         ensures answer { AnswersEdit result pages.new.closed (HonestAt D.honest pages.new.disk
             → (before after : List Part) (parts : SearchParts) (tunes more : List (ℕ × List ℕ))
             → AreSmall tunes → AreSmall more → AreRunsOf more runs.now
             → HoldsTexts (stand pages.old work.old) self.old before after parts tunes
-            → free_pages (stand pages.old work.old).used + leaves_of self.old
+            → free_pages (stand pages.old work.old).used + leaf_count self.old
             < most_entries * length (tunes ++ more)) }
     {
         match put_runs(alloc, pages, work, self, runs) {
@@ -190,8 +190,8 @@ impl SearchIndexes {
             → (next : SearchParts) × HoldsTexts (stand pages.new work.new) self.new
             before after next others) }
         ensures balance { OnOk result (free_pages (stand pages.old work.old).used
-            + leaves_of self.old ≡ free_pages (stand pages.new work.new).used
-            + leaves_of self.new) }
+            + leaf_count self.old ≡ free_pages (stand pages.new work.new).used
+            + leaf_count self.new) }
         ensures looks { LooksAt D.honest D.failures D.state result pages.old pages.new }
         ensures answer { AnswersEdit result pages.new.closed ⊥ }
     {

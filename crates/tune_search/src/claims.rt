@@ -44,7 +44,7 @@ impl Model for SearchClaims {
     ghost use Rattle.index_keys.specs.Groups.{grouped_entries};
     ghost use Rattle.tune_search.specs.SearchClaims.{ClaimShape};
     ghost use Rattle.tune_search.specs.Inside.EntryLinks.{AreLinked};
-    ghost use Rattle.tune_search.specs.Inside.HeldKeys.{AreHeld, AreHeldInGroups};
+    ghost use Rattle.tune_search.specs.Inside.HeldKeys.{AreKeysHeld, AreHeldInGroups};
     ghost use Rattle.tune_search.specs.Inside.IncipitLinks.{entries_claimed, counts_claimed};
     ghost use Rattle.tune_search.specs.Inside.IncipitLinks.{keys_claimed, notes_of_claims};
 
@@ -68,7 +68,7 @@ impl Model for SearchClaims {
         claims.rhythms.counts.items claims.rhythms.ids.items
         × AreHeldInGroups claims.numbers.items claims.scales.entries
         claims.scales.counts.items claims.scales.ids.items
-        × AreHeld claims.numbers.items (entries_claimed claims.incipits)
+        × AreKeysHeld claims.numbers.items (entries_claimed claims.incipits)
         (counts_claimed claims.incipits) (keys_claimed claims.incipits) };
 }
 

@@ -2,7 +2,7 @@
 ghost use Rattle.std.specs.Prelude.{◌≡◌, ◌↔◌, ◌^◌, ◌<◌, ◌≤◌, ◌++◌, [], ◌∷◌, true, false, length};
 ghost use Rattle.std.specs.Prelude.{ℕ, List, IfOk, IsTrue, OnErr};
 ghost use Rattle.index_keys.specs.Entries.{IsRising};
-ghost use Rattle.tune_search.specs.HeldShapes.{IsKept, held_entries, whole_key};
+ghost use Rattle.tune_search.specs.HeldShapes.{IsKeptKey, held_entries, whole_key};
 
 use crate::held_keys::HeldKey;
 use index_keys::{EntryList, IndexKey};
@@ -111,7 +111,7 @@ fn hold<const W: usize>(
 ) -> Result<HeldKey, AllocError>
     requires { length others.old.items < 2 ^ 32 }
     ensures key { IfOk result (λ held. whole_key W others.new.items held ≡ key.now) }
-    ensures kept { IfOk result (λ held. IsKept (length others.new.items) held) }
+    ensures kept { IfOk result (λ held. IsKeptKey (length others.new.items) held) }
     ensures more { IfOk result (λ _. (more : List ℕ)
         × (others.new.items ≡ others.old.items ++ more) × (length more ≤ 1)) }
     ensures same { OnErr result (others.new.items ≡ others.old.items) }

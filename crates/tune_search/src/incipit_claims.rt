@@ -5,7 +5,7 @@ ghost use Rattle.std.specs.List.Sorted.{IsStrictlyIncreasing};
 ghost use Rattle.tune_incipit.specs.ScaleAndIncipitKeys.{incipit_keys};
 ghost use Rattle.tune_search.specs.SearchClaims.{AreKnown};
 ghost use Rattle.tune_search.specs.IncipitForms.{entries_held, notes_held};
-ghost use Rattle.tune_search.specs.Inside.HeldKeys.{AreHeld, HasKeys};
+ghost use Rattle.tune_search.specs.Inside.HeldKeys.{AreKeysHeld, HasKeys};
 ghost use Rattle.tune_search.specs.Inside.IncipitLinks.{entries_claimed, counts_claimed};
 ghost use Rattle.tune_search.specs.Inside.IncipitLinks.{keys_claimed, notes_of_claims};
 
@@ -37,7 +37,7 @@ pub(crate) fn incipit_claims_of(
     ensures known { IfOk result (λ made. IfSome made (λ _.
         AreKnown numbers.now (entries_held entries))) }
     ensures held { IfOk result (λ made. IfSome made (λ claims.
-        AreHeld numbers.now (entries_held entries) (counts_claimed claims)
+        AreKeysHeld numbers.now (entries_held entries) (counts_claimed claims)
         (keys_claimed claims))) }
     ensures unknown { IfOk result (λ made. made ≡ None
         → AreKnown numbers.now (entries_held entries) → ⊥) }

@@ -3,8 +3,8 @@ ghost use Rattle.std.specs.Prelude.{◌≡◌, ◌++◌, length, IfOk, OnOk};
 ghost use Rattle.std.specs.List.Sorted.{IsNonDecreasingBy, IsPermutation};
 ghost use Rattle.index_keys.specs.Entries.{AllFit, rank};
 ghost use Rattle.tune_incipit.specs.ScaleAndIncipitKeys.{incipit_keys};
-ghost use Rattle.tune_search.specs.IncipitForms.{entries_in, notes_in, notes_of_entries};
-ghost use Rattle.tune_search.specs.Inside.TextEntries.{entries_at};
+ghost use Rattle.tune_search.specs.IncipitForms.{entries_of_incipits, note_count, notes_of_entries};
+ghost use Rattle.tune_search.specs.Inside.TextEntries.{entries_at_keys};
 ghost use Rattle.tune_search.specs.Searches.{incipit_bytes};
 
 use crate::runs::{add_entries, in_order};
@@ -23,7 +23,7 @@ pub enum IncipitNotes {
 impl IncipitNotes {
     /// How many notes these are.
     pub fn notes(self) -> usize
-        ensures { result ≡ notes_in self }
+        ensures { result ≡ note_count self }
     {
         match self {
             IncipitNotes::Eight => 8,
@@ -46,8 +46,8 @@ impl IncipitEntries {
         notes: IncipitNotes,
         count: usize,
     ) -> Result<IncipitEntries, AllocError>
-        ensures notes { IfOk result (λ entries. notes_of_entries entries ≡ notes_in notes) }
-        ensures none { IfOk result (λ entries. length (entries_in entries) ≡ 0) }
+        ensures notes { IfOk result (λ entries. notes_of_entries entries ≡ note_count notes) }
+        ensures none { IfOk result (λ entries. length (entries_of_incipits entries) ≡ 0) }
     {
         match notes {
             IncipitNotes::Eight => Ok(IncipitEntries::Eight(Vec::with_capacity(alloc, count)?)),
@@ -58,11 +58,12 @@ impl IncipitEntries {
     // Puts the entry of a text, where it has one, behind those that are there.
     pub(crate) fn add_text(&mut self, number: u32, text: &TuneText) -> Result<(), AllocError>
         ensures notes { OnOk result (notes_of_entries self.new ≡ notes_of_entries self.old) }
-        ensures added { OnOk result (entries_in self.new ≡ entries_in self.old
-            ++ entries_at number (incipit_keys (notes_of_entries self.old) text.now)) }
-        ensures fit { AllFit (incipit_bytes (notes_of_entries self.old)) (entries_in self.old)
+        ensures added { OnOk result (entries_of_incipits self.new ≡ entries_of_incipits self.old
+            ++ entries_at_keys number (incipit_keys (notes_of_entries self.old) text.now)) }
+        ensures fit { AllFit (incipit_bytes (notes_of_entries self.old))
+            (entries_of_incipits self.old)
             → OnOk result (AllFit (incipit_bytes (notes_of_entries self.old))
-            (entries_in self.new)) }
+            (entries_of_incipits self.new)) }
     {
         match self {
             IncipitEntries::Eight(entries) => {
@@ -77,8 +78,8 @@ impl IncipitEntries {
     // The entries in order.
     pub(crate) fn in_order(self) -> IncipitEntries
         ensures notes { notes_of_entries result ≡ notes_of_entries self }
-        ensures same { IsPermutation (entries_in self) (entries_in result) }
-        ensures sorted { IsNonDecreasingBy rank (entries_in result) }
+        ensures same { IsPermutation (entries_of_incipits self) (entries_of_incipits result) }
+        ensures sorted { IsNonDecreasingBy rank (entries_of_incipits result) }
     {
         match self {
             IncipitEntries::Eight(entries) => IncipitEntries::Eight(in_order(entries)),

@@ -16,7 +16,7 @@ ghost use Rattle.tune_index.specs.Indexes.{KeepsBalance};
 ghost use Rattle.tune_index.specs.ListedLeaves.{IsStored, LoadsIndex, index_with, pages_claimed};
 ghost use Rattle.tune_parts.specs.Parts.{Part};
 ghost use Rattle.tune_search.specs.Empty.{no_leaves};
-ghost use Rattle.tune_search.specs.IncipitForms.{entries_in, notes_in, notes_of_entries};
+ghost use Rattle.tune_search.specs.IncipitForms.{entries_of_incipits, note_count, notes_of_entries};
 ghost use Rattle.tune_search.specs.IncipitForms.{entries_held, notes_held};
 ghost use Rattle.tune_search.specs.IncipitForms.{notes_of_index, shape_of};
 ghost use Rattle.tune_search.specs.IndexParts.{HoldsIndexAmong, HoldsSomeIndex, IndexParts};
@@ -43,7 +43,7 @@ pub(crate) enum IncipitIndex {
 impl IncipitIndex {
     // An index without an entry. It takes no memory.
     pub fn new(alloc: Global, notes: IncipitNotes) -> IncipitIndex
-        ensures notes { notes_of_index result ≡ notes_in notes }
+        ensures notes { notes_of_index result ≡ note_count notes }
         ensures none { shape_of result ≡ no_leaves }
     {
         match notes {
@@ -54,7 +54,7 @@ impl IncipitIndex {
 
     // By how many notes it is.
     pub fn notes(&self) -> IncipitNotes
-        ensures { notes_in result ≡ notes_of_index self.now }
+        ensures { note_count result ≡ notes_of_index self.now }
     {
         match self {
             IncipitIndex::Eight(_) => IncipitNotes::Eight,
@@ -97,14 +97,14 @@ impl IncipitIndex {
         first: u32,
         most: u32,
     ) -> Result<(IncipitIndex, HeldEntries), ClaimFault>
-        ensures notes { IfOk result (λ loaded. notes_of_index loaded.0 ≡ notes_in notes) }
-        ensures same { IfOk result (λ loaded. notes_held loaded.1 ≡ notes_in notes) }
+        ensures notes { IfOk result (λ loaded. notes_of_index loaded.0 ≡ note_count notes) }
+        ensures same { IfOk result (λ loaded. notes_held loaded.1 ≡ note_count notes) }
         ensures loads { IfOk result (λ loaded. D.honest opening.new.disk → LoadsIndex
-            (incipit_bytes (notes_in notes)) most
+            (incipit_bytes (note_count notes)) most
             (pages_claimed opening.old.pages opening.old.claimed) opening.new.claimed first
             (index_with (shape_of loaded.0) (entries_held loaded.1))) }
         ensures damaged { IfErr result (λ fault. D.honest opening.new.disk → IsChainFault fault
-            (IsStored (incipit_bytes (notes_in notes)) most opening.old.pages
+            (IsStored (incipit_bytes (note_count notes)) most opening.old.pages
             opening.old.claimed first)) }
         ensures looks { LooksOpening D.honest D.failures D.state result opening.old opening.new }
     {
@@ -138,13 +138,13 @@ impl IncipitIndex {
         requires index { HonestAt D.honest pages.old.disk → HoldsSomeIndex
             (incipit_bytes (notes_of_index self.old)) (stand pages.old work.old)
             (shape_of self.old) }
-        requires rising { IsRising (entries_in run.now) }
+        requires rising { IsRising (entries_of_incipits run.now) }
         ensures fits { OnOk result (Fits pages.new work.new) }
         ensures notes { OnOk result (notes_of_index self.new ≡ notes_of_index self.old) }
         ensures lays { OnOk result (HonestAt D.honest pages.new.disk → LaysIndex
             (incipit_bytes (notes_of_index self.old)) (stand pages.old work.old)
             (stand pages.new work.new) (shape_of self.old) (shape_of self.new)
-            (λ entries. inserted_all (entries_in run.now) entries)) }
+            (λ entries. inserted_all (entries_of_incipits run.now) entries)) }
         ensures balance { OnOk result (KeepsBalance (stand pages.old work.old)
             (stand pages.new work.new) (shape_of self.old).pages (shape_of self.new).pages) }
         ensures looks { LooksAt D.honest D.failures D.state result pages.old pages.new }
@@ -153,7 +153,7 @@ impl IncipitIndex {
             → HoldsIndexAmong (incipit_bytes (notes_of_index self.old))
             (stand pages.old work.old) (index_with (shape_of self.old) entries) before after parts
             → free_pages (stand pages.old work.old).used + length (shape_of self.old).pages
-            < length (inserted_all (entries_in run.now) entries)) }
+            < length (inserted_all (entries_of_incipits run.now) entries)) }
     {
         match self {
             IncipitIndex::Eight(index) => match run {
@@ -186,7 +186,7 @@ impl IncipitIndex {
         ensures lays { OnOk result (HonestAt D.honest pages.new.disk → LaysIndex
             (incipit_bytes (notes_of_index self.old)) (stand pages.old work.old)
             (stand pages.new work.new) (shape_of self.old) (shape_of self.new)
-            (λ entries. removed_all (entries_in run.now) entries)) }
+            (λ entries. removed_all (entries_of_incipits run.now) entries)) }
         ensures balance { OnOk result (KeepsBalance (stand pages.old work.old)
             (stand pages.new work.new) (shape_of self.old).pages (shape_of self.new).pages) }
         ensures looks { LooksAt D.honest D.failures D.state result pages.old pages.new }

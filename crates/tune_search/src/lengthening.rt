@@ -10,7 +10,7 @@ ghost use Rattle.tune_parts.specs.Parts.{Part};
 ghost use Rattle.tune_search.specs.IncipitRuns.{AreIncipitsOf, HoldsIncipits};
 ghost use Rattle.tune_search.specs.IndexParts.{HoldsSomeIndex, LaysIndex};
 ghost use Rattle.tune_search.specs.Inside.Lengthening.{Lengthens};
-ghost use Rattle.tune_search.specs.SearchPages.{leaves_of};
+ghost use Rattle.tune_search.specs.SearchPages.{leaf_count};
 ghost use Rattle.tune_search.specs.Searches.{HoldsTexts, SearchParts};
 
 use crate::incipit_index::IncipitIndex;
@@ -114,8 +114,8 @@ impl SearchIndexes {
             → (next : SearchParts) × HoldsTexts (stand pages.new work.new) self.new
             before after next tunes) }
         ensures balance { OnOk result (HonestAt D.honest pages.new.disk
-            → free_pages (stand pages.old work.old).used + leaves_of self.old
-            ≡ free_pages (stand pages.new work.new).used + leaves_of self.new) }
+            → free_pages (stand pages.old work.old).used + leaf_count self.old
+            ≡ free_pages (stand pages.new work.new).used + leaf_count self.new) }
         ensures looks { LooksAt D.honest D.failures D.state result pages.old pages.new }
         ensures answer { AnswersEdit result pages.new.closed (HonestAt D.honest pages.new.disk
             → (before after : List Part) (parts : SearchParts) (tunes : List (ℕ × List ℕ))

@@ -6,7 +6,7 @@ ghost use Rattle.tune_index.specs.ListedLeaves.{LoadsIndex, pages_claimed};
 ghost use Rattle.tune_parts.specs.Parts.{AreParts, Part};
 ghost use Rattle.tune_search.specs.LoadedParts.{ClaimsParts, HasClaimed, HoldEachAtMost};
 ghost use Rattle.tune_search.specs.LoadedParts.{HoldsAtMost, HoldsLoaded, HoldsLoadedSearch};
-ghost use Rattle.tune_search.specs.LoadedParts.{firsts_of, parts_loaded, search_loaded};
+ghost use Rattle.tune_search.specs.LoadedParts.{search_firsts_of, parts_loaded, search_loaded};
 ghost use Rattle.tune_search.specs.IndexParts.{IndexParts, parts_of_index};
 ghost use Rattle.tune_search.specs.Loaded.{AreStored, LoadsSearch, SearchWithEntries};
 ghost use Rattle.tune_search.specs.Searches.{SearchParts, SearchRuns, parts_of_search};
@@ -49,7 +49,7 @@ pub fn law_of_loads()
         (parts : SearchParts) (entries : SearchRuns) (front more : List Part)
         → AreParts pages (front ++ (parts_of_search parts ++ more))
         → ClaimsParts pages claimed front → HoldEachAtMost most parts entries
-        → AreStored entries.notes most pages claimed (firsts_of parts) }
+        → AreStored entries.notes most pages claimed (search_firsts_of parts) }
     ensures same_search { (most : ℕ) (was : ClaimedPages) (after : List Bool)
         (firsts : SearchFirsts) (loaded : SearchWithEntries)
         (loads : LoadsSearch most was after firsts loaded)
@@ -57,6 +57,6 @@ pub fn law_of_loads()
         → length was.claimed < 256 ^ 4
         → AreParts was.pages (front ++ (parts_of_search other ++ more))
         → ClaimsParts was.pages was.claimed front → others.notes ≡ loaded.runs.notes
-        → HoldEachAtMost most other others → firsts_of other ≡ firsts
+        → HoldEachAtMost most other others → search_firsts_of other ≡ firsts
         → (other ≡ search_loaded loads) × (others ≡ loaded.runs) }
 {}

@@ -2,7 +2,7 @@
 ghost use Rattle.std.specs.Prelude.{◌≡◌, IfErr, IfOk};
 ghost use Rattle.tune_index.specs.ListedLeaves.{pages_claimed};
 ghost use Rattle.tune_pages.specs.Claim.{IsChainFault, LooksOpening};
-ghost use Rattle.tune_search.specs.IncipitForms.{notes_in};
+ghost use Rattle.tune_search.specs.IncipitForms.{note_count};
 ghost use Rattle.tune_search.specs.Loaded.{AreStored, LoadsSearch, runs_in, search_with};
 
 use crate::held_entries::HeldEntries;
@@ -51,12 +51,12 @@ impl SearchIndexes {
         firsts: SearchFirsts,
         most: u32,
     ) -> Result<(SearchIndexes, SearchEntries), ClaimFault>
-        ensures notes { IfOk result (λ loaded. loaded.0.notes ≡ notes_in notes) }
+        ensures notes { IfOk result (λ loaded. loaded.0.notes ≡ note_count notes) }
         ensures loads { IfOk result (λ loaded. D.honest opening.new.disk → LoadsSearch most
             (pages_claimed opening.old.pages opening.old.claimed) opening.new.claimed firsts
             (search_with loaded.0 (runs_in loaded.1))) }
         ensures damaged { IfErr result (λ fault. D.honest opening.new.disk → IsChainFault fault
-            (AreStored (notes_in notes) most opening.old.pages opening.old.claimed firsts)) }
+            (AreStored (note_count notes) most opening.old.pages opening.old.claimed firsts)) }
         ensures looks { LooksOpening D.honest D.failures D.state result opening.old opening.new }
     {
         // For the proof.

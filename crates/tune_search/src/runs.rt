@@ -5,9 +5,9 @@ ghost use Rattle.std.specs.List.Sorted.{IsNonDecreasingBy, IsPermutation};
 ghost use Rattle.std.specs.List.Sorted.{IsSortedByKey, IsStableByKey};
 ghost use Rattle.std.specs.Ordering.{nat_cmp};
 ghost use Rattle.index_keys.specs.Entries.{AllFit, FitsLeaf, rank};
-ghost use Rattle.tune_search.specs.IncipitForms.{notes_in};
-ghost use Rattle.tune_search.specs.Inside.TextEntries.{entries_at};
-ghost use Rattle.tune_search.specs.Searches.{AreRunsOf, numbered};
+ghost use Rattle.tune_search.specs.IncipitForms.{note_count};
+ghost use Rattle.tune_search.specs.Inside.TextEntries.{entries_at_keys};
+ghost use Rattle.tune_search.specs.Searches.{AreRunsOf, texts_numbered};
 
 use crate::incipit_entries::{IncipitEntries, IncipitNotes};
 use abc_fields::{TuneText, fields};
@@ -29,7 +29,7 @@ pub struct Runs {
 }
 
 impl Model for Runs {
-    ghost use Rattle.tune_search.specs.IncipitForms.{entries_in, notes_of_entries};
+    ghost use Rattle.tune_search.specs.IncipitForms.{entries_of_incipits, notes_of_entries};
     ghost use Rattle.tune_search.specs.Searches.{SearchRuns};
 
     ghost Value = { SearchRuns };
@@ -39,7 +39,7 @@ impl Model for Runs {
       titles = runs.titles.items;
       rhythms = runs.rhythms.items;
       scales = runs.scales.items;
-      incipits = entries_in runs.incipits;
+      incipits = entries_of_incipits runs.incipits;
     } };
 }
 
@@ -57,8 +57,8 @@ impl Runs {
         texts: &[TuneText],
     ) -> Result<Runs, AllocError>
         requires { first + length texts.now ≤ 2 ^ 32 }
-        ensures notes { IfOk result (λ runs. runs.notes ≡ notes_in notes) }
-        ensures runs { IfOk result (λ runs. AreRunsOf (numbered first texts.now) runs) }
+        ensures notes { IfOk result (λ runs. runs.notes ≡ note_count notes) }
+        ensures runs { IfOk result (λ runs. AreRunsOf (texts_numbered first texts.now) runs) }
     {
         // Most tunes have a title or two.
         let mut titles = Vec::with_capacity(alloc, texts.len().saturating_mul(2))?;
@@ -97,7 +97,7 @@ pub(crate) fn add_entries<const W: usize>(
     run: &mut Vec<(IndexKey<W>, u32)>,
 ) -> Result<(), AllocError>
     ensures added { OnOk result
-        (run.new.items ≡ run.old.items ++ entries_at number keys.now) }
+        (run.new.items ≡ run.old.items ++ entries_at_keys number keys.now) }
     ensures fit { AllFit W run.old.items → OnOk result (AllFit W run.new.items) }
 {
     for key in keys {

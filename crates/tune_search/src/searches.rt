@@ -1,7 +1,7 @@
 // The four search indexes as one value.
 ghost use Rattle.std.specs.Prelude.{◌≡◌, IfOk, OnOk};
 ghost use Rattle.tune_search.specs.Empty.{no_indexes};
-ghost use Rattle.tune_search.specs.IncipitForms.{notes_in};
+ghost use Rattle.tune_search.specs.IncipitForms.{note_count};
 
 use crate::incipit_entries::IncipitNotes;
 use crate::incipit_index::IncipitIndex;
@@ -37,7 +37,7 @@ impl Model for SearchIndexes {
 impl SearchIndexes {
     /// Indexes without an entry, that of incipits by so many notes. They take no memory.
     pub fn new(alloc: Global, notes: IncipitNotes) -> SearchIndexes
-        ensures { result ≡ no_indexes (notes_in notes) }
+        ensures { result ≡ no_indexes (note_count notes) }
     {
         SearchIndexes {
             titles: Index::new(alloc),
@@ -49,7 +49,7 @@ impl SearchIndexes {
 
     /// By how many notes incipits are kept.
     pub fn notes(&self) -> IncipitNotes
-        ensures { notes_in result ≡ self.now.notes }
+        ensures { note_count result ≡ self.now.notes }
     {
         self.incipits.notes()
     }

@@ -4,7 +4,7 @@ ghost use Rattle.std.specs.Prelude.{◌≡◌, ◌↔◌, ◌<◌, ℕ, List, le
 ghost use Rattle.std.specs.Prelude.{IfOk, IfSome, IsTrue, None};
 ghost use Rattle.std.specs.List.Sorted.{IsStrictlyIncreasing};
 ghost use Rattle.std.specs.Option.{option_to_list};
-ghost use Rattle.tune_search.specs.Inside.HeldKeys.{AreHeld, HasKeys};
+ghost use Rattle.tune_search.specs.Inside.HeldKeys.{AreKeysHeld, HasKeys};
 ghost use Rattle.tune_incipit.specs.ScaleAndIncipitKeys.{incipit_keys_of};
 ghost use Rattle.tune_search.specs.HeldShapes.{held_entries, whole_entry, whole_key};
 ghost use Rattle.tune_search.specs.SearchClaims.{AreKnown};
@@ -49,7 +49,7 @@ fn lay_out(
     ensures known { (width : ℕ) (others : List ℕ)
         → (IsTrue result ↔ AreKnown numbers.now (map (whole_entry width others) entries.now)) }
     ensures held { (width : ℕ) (others : List ℕ) → IsTrue result
-        → AreHeld numbers.now (map (whole_entry width others) entries.now) counts.new
+        → AreKeysHeld numbers.now (map (whole_entry width others) entries.now) counts.new
         (map (whole_key width others) keys.new) }
 {
     let mut at = entries.len();
@@ -77,7 +77,7 @@ pub(crate) fn single_claims_of<const W: usize>(
     ensures known { IfOk result (λ made. IfSome made (λ _.
         AreKnown numbers.now (held_entries W entries.entry))) }
     ensures held { IfOk result (λ made. IfSome made (λ claims.
-        AreHeld numbers.now (held_entries W entries.entry) claims.counts.items
+        AreKeysHeld numbers.now (held_entries W entries.entry) claims.counts.items
         (map (whole_key W entries.entry.others) claims.keys.items))) }
     ensures unknown { IfOk result (λ made. made ≡ None
         → AreKnown numbers.now (held_entries W entries.entry) → ⊥) }

@@ -7,7 +7,7 @@ ghost use Rattle.tune_pages.specs.Work.{stand, Fits};
 ghost use Rattle.tune_index.specs.IndexAnswers.{AnswersEdit};
 ghost use Rattle.tune_parts.specs.Parts.{Part};
 ghost use Rattle.tune_search.specs.Inside.Four.{HoldsSomeFour, LaysFour};
-ghost use Rattle.tune_search.specs.SearchPages.{AreListed, firsts_in, leaves_of, lists_of};
+ghost use Rattle.tune_search.specs.SearchPages.{AreListed, firsts_in, leaf_count, lists_of};
 ghost use Rattle.tune_search.specs.Searches.{HoldsSomeTexts, HoldsTexts, SearchParts};
 
 use crate::index_changes::store_list;
@@ -35,7 +35,7 @@ fn store_lists<D: Disk>(
         (λ entries. entries)) }
     ensures firsts { IfOk result (λ firsts. firsts ≡ firsts_in indexes.new) }
     ensures listed { OnOk result (AreListed indexes.new) }
-    ensures leaves { OnOk result (leaves_of indexes.new ≡ leaves_of indexes.old) }
+    ensures leaves { OnOk result (leaf_count indexes.new ≡ leaf_count indexes.old) }
     ensures takes { HonestAt D.honest pages.new.disk → TakesAtMost (lists_of indexes.old) result
         (stand pages.old work.old) (stand pages.new work.new) }
     ensures looks { LooksAt D.honest D.failures D.state result pages.old pages.new }
@@ -92,7 +92,7 @@ impl SearchIndexes {
             before after next tunes) }
         ensures firsts { IfOk result (λ firsts. firsts ≡ firsts_in self.new) }
         ensures listed { OnOk result (AreListed self.new) }
-        ensures leaves { OnOk result (leaves_of self.new ≡ leaves_of self.old) }
+        ensures leaves { OnOk result (leaf_count self.new ≡ leaf_count self.old) }
         ensures takes { HonestAt D.honest pages.new.disk → TakesAtMost (lists_of self.old) result
             (stand pages.old work.old) (stand pages.new work.new) }
         ensures looks { LooksAt D.honest D.failures D.state result pages.old pages.new }

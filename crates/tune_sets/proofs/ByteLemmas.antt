@@ -8,9 +8,9 @@ use Rattle.byteorder.specs.Endian.{big_bytes, big_number}
 use Rattle.byteorder.specs.Numbers.{big_number-reads_back}
 use Rattle.tune_sets.specs.Names.{is_before}
 use Rattle.tune_sets.specs.SetBytes.{written_numbers}
-use Rattle.tune_sets.specs.Sets.{IsTuneSet, RisesFrom, AreSetLists}
+use Rattle.tune_sets.specs.Sets.{IsTuneSet, NamesRiseFrom, AreSetLists}
 use Rattle.tune_sets.specs.Inside.Search.{last_name}
-use Rattle.tune_sets.specs.SetBytes.{written_name, written_set, written_sets}
+use Rattle.tune_sets.specs.SetBytes.{written_name, stored_set, written_sets}
 use Rattle.tune_sets.specs.declared.set_lists.TuneSet.{TuneSet}
 use Rattle.tune_sets.specs.Limits.{most_places}
 use Rattle.tune_sets.proofs.ChangeLemmas.{Narrow}
@@ -84,12 +84,12 @@ places_same n m a b x y few less la lb e =
     let count : n ≡ m = counts_same n m (omega arith) (omega arith) front.0 in
     (count, cut a b x y (omega arith) front.1)
 
-pub set_parts : (set : TuneSet) (later : List ℕ) → written_set set ++ later ≡ written_name set.name ++ (big_bytes 2 (length set.numbers) ++
+pub set_parts : (set : TuneSet) (later : List ℕ) → stored_set set ++ later ≡ written_name set.name ++ (big_bytes 2 (length set.numbers) ++
     (written_numbers set.numbers ++ later))
 set_parts set later = ap (λ t. length set.name ∷ t) (append_assoc set.name (big_bytes 2 (length set.numbers) ++ written_numbers set.numbers) later)
 
 -- a set at the front of bytes is the only one
-pub set_same : (s t : TuneSet) (x y : List ℕ) → IsTuneSet s → IsTuneSet t → written_set s ++ x ≡ written_set t ++ y → (s ≡ t) × (x ≡ y)
+pub set_same : (s t : TuneSet) (x y : List ℕ) → IsTuneSet s → IsTuneSet t → stored_set s ++ x ≡ stored_set t ++ y → (s ≡ t) × (x ≡ y)
 set_same s t x y is other e =
     let name = name_same s.name t.name _ _ (sym (set_parts s x) ∙ e ∙ set_parts t y) in
     let places = places_same (length s.numbers) (length t.numbers) (written_numbers s.numbers) (written_numbers t.numbers) x y is.places other.places
@@ -108,16 +108,16 @@ sets_same (s ∷ ss) (t ∷ ts) p q e =
 
 pub written_sets-append : (ss ts : List TuneSet) → written_sets (ss ++ ts) ≡ written_sets ss ++ written_sets ts
 written_sets-append [] ts = refl
-written_sets-append (s ∷ ss) ts = ap (λ t. written_set s ++ t) (written_sets-append ss ts)
-    ∙ sym (append_assoc (written_set s) (written_sets ss) (written_sets ts))
+written_sets-append (s ∷ ss) ts = ap (λ t. stored_set s ++ t) (written_sets-append ss ts)
+    ∙ sym (append_assoc (stored_set s) (written_sets ss) (written_sets ts))
 
 -- NAMES IN ORDER
-pub rises-push : (low : List ℕ) (sets : List TuneSet) (set : TuneSet) → RisesFrom low sets → is_before (last_name low sets) set.name ≡ true
-    → RisesFrom low (sets ++ set ∷ [])
+pub rises-push : (low : List ℕ) (sets : List TuneSet) (set : TuneSet) → NamesRiseFrom low sets → is_before (last_name low sets) set.name ≡ true
+    → NamesRiseFrom low (sets ++ set ∷ [])
 rises-push low [] set rises above = (above, tt)
 rises-push low (s ∷ sets) set rises above = (rises.0, rises-push s.name sets set rises.1 above)
 
-pub rises-last : (low : List ℕ) (sets more : List TuneSet) (set : TuneSet) → RisesFrom low (sets ++ (set ∷ more))
+pub rises-last : (low : List ℕ) (sets more : List TuneSet) (set : TuneSet) → NamesRiseFrom low (sets ++ (set ∷ more))
     → is_before (last_name low sets) set.name ≡ true
 rises-last low [] more set rises = rises.0
 rises-last low (s ∷ sets) more set rises = rises-last s.name sets more set rises.1
@@ -138,7 +138,7 @@ each-after [] more each = each
 each-after (s ∷ lists) more each = each-after lists more each.1
 
 -- one set more is read
-go_on : (lists more : List TuneSet) (set : TuneSet) (rest later : List ℕ) (sets : List TuneSet) → IsTuneSet set → written_set set ++ later ≡ rest
+go_on : (lists more : List TuneSet) (set : TuneSet) (rest later : List ℕ) (sets : List TuneSet) → IsTuneSet set → stored_set set ++ later ≡ rest
     → (0 < length rest) → AreSetLists sets → lists ++ more ≡ sets → written_sets more ≡ rest
     → GoOn (lists ++ set ∷ []) later sets
 go_on lists [] set rest later sets is read some are whole written = absurd (let l = ap length written in omega arith)
@@ -147,17 +147,17 @@ go_on lists (s ∷ more) set rest later sets is read some are whole written =
     let same = set_same s set (written_sets more) later each.0 is (written ∙ sym read) in
     record { more = more; whole = append_assoc lists (set ∷ []) more ∙ ap (λ t. lists ++ (t ∷ more)) (sym same.0) ∙ whole; written = same.1 }
 
-pub goes_on : (lists : List TuneSet) (set : TuneSet) (rest later : List ℕ) (sets : List TuneSet) → IsTuneSet set → written_set set ++ later ≡ rest
+pub goes_on : (lists : List TuneSet) (set : TuneSet) (rest later : List ℕ) (sets : List TuneSet) → IsTuneSet set → stored_set set ++ later ≡ rest
     → 0 < length rest → AreSetLists sets → GoOn lists rest sets → GoOn (lists ++ set ∷ []) later sets
 goes_on lists set rest later sets is read some are on = go_on lists on.more set rest later sets is read some are on.whole on.written
 
 -- no set is read
 pub stops_at : (lists : List TuneSet) (rest : List ℕ) (sets : List TuneSet) → ((set : TuneSet) (later : List ℕ) → IsTuneSet set
-    → written_set set ++ later ≡ rest → ⊥) → 0 < length rest → AreSetLists sets → GoOn lists rest sets → ⊥
+    → stored_set set ++ later ≡ rest → ⊥) → 0 < length rest → AreSetLists sets → GoOn lists rest sets → ⊥
 stops_at lists rest sets none some are on = stops_by lists on.more rest sets none some are on.whole on.written
   where
     stops_by : (lists more : List TuneSet) (rest : List ℕ) (sets : List TuneSet) → ((set : TuneSet) (later : List ℕ) → IsTuneSet set
-        → written_set set ++ later ≡ rest → ⊥) → 0 < length rest → AreSetLists sets → lists ++ more ≡ sets → written_sets more ≡ rest → ⊥
+        → stored_set set ++ later ≡ rest → ⊥) → 0 < length rest → AreSetLists sets → lists ++ more ≡ sets → written_sets more ≡ rest → ⊥
     stops_by lists [] rest sets none some are whole written = absurd (let l = ap length written in omega arith)
     stops_by lists (s ∷ more) rest sets none some are whole written =
         let each = each-after lists (s ∷ more) (subst (AllByRecursion IsTuneSet) (sym whole) are.each) in
@@ -220,16 +220,16 @@ numbers_more numbers bytes i n read fits are is =
     ∙ four_front (drop (4 * i) bytes) (omega (arith, length-drop (4 * i) bytes)) bytes_there)
     ∙ sym (ap (λ k. take k bytes) more ∙ take-add (4 * i) 4 bytes)
 
-pub same_more : (lists : List TuneSet) (set : TuneSet) (rest later bytes : List ℕ) → written_sets lists ++ rest ≡ bytes → written_set set ++ later ≡ rest
+pub same_more : (lists : List TuneSet) (set : TuneSet) (rest later bytes : List ℕ) → written_sets lists ++ rest ≡ bytes → stored_set set ++ later ≡ rest
     → written_sets (lists ++ set ∷ []) ++ later ≡ bytes
 same_more lists set rest later bytes same read =
-    ap (λ t. t ++ later) (written_sets-append lists (set ∷ []) ∙ ap (λ t. written_sets lists ++ t) (append-nil (written_set set)))
-    ∙ append_assoc (written_sets lists) (written_set set) later ∙ ap (λ t. written_sets lists ++ t) read ∙ same
+    ap (λ t. t ++ later) (written_sets-append lists (set ∷ []) ∙ ap (λ t. written_sets lists ++ t) (append-nil (stored_set set)))
+    ∙ append_assoc (written_sets lists) (stored_set set) later ∙ ap (λ t. written_sets lists ++ t) read ∙ same
 
 -- the set that was read of its parts
 pub set_read : (set : TuneSet) (name places later rest bytes : List ℕ) (count : ℕ) → set.name ≡ name → written_numbers set.numbers ≡ places
     → length places ≡ 4 * count → big_bytes 2 count ++ (places ++ later) ≡ rest → written_name name ++ rest ≡ bytes
-    → (length set.numbers ≡ count) × (written_set set ++ later ≡ bytes)
+    → (length set.numbers ≡ count) × (stored_set set ++ later ≡ bytes)
 set_read set name places later rest bytes count named numbers size front whole =
     let lengths = ap length numbers in
     let counted : length set.numbers ≡ count = omega (arith, length-written_numbers set.numbers) in (

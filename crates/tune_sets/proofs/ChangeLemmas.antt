@@ -7,7 +7,7 @@ use Rattle.std.proofs.lemmas.List.{length-map}
 use Rattle.tune_sets.specs.Limits.{most_places, most_sets}
 use Rattle.tune_sets.specs.Names.{is_good_name, is_before}
 use Rattle.tune_sets.specs.Numbers.{renumbered, renumbered_all}
-use Rattle.tune_sets.specs.Sets.{IsTuneSet, RisesFrom, AreSetLists, empty_set, with_numbers, renumbered_set, renumbered_sets}
+use Rattle.tune_sets.specs.Sets.{IsTuneSet, NamesRiseFrom, AreSetLists, empty_set, with_numbers, renumbered_set, renumbered_sets}
 use Rattle.tune_sets.specs.Inside.Search.{NameFoundAt, NameMissingAt}
 use Rattle.tune_sets.specs.declared.set_lists.TuneSet.{TuneSet}
 use Rattle.tune_sets.proofs.NameOrder.{before_trans, good_after}
@@ -52,26 +52,26 @@ length-remove_set [] (suc n) = omega arith
 length-remove_set (set ∷ sets) zero = omega arith
 length-remove_set (set ∷ sets) (suc n) = omega (arith, length-remove_set sets n)
 
-pub rises-below : (low mid : List ℕ) (sets : List TuneSet) → is_before low mid ≡ true → RisesFrom mid sets → RisesFrom low sets
+pub rises-below : (low mid : List ℕ) (sets : List TuneSet) → is_before low mid ≡ true → NamesRiseFrom mid sets → NamesRiseFrom low sets
 rises-below low mid [] before rises = tt
 rises-below low mid (set ∷ sets) before rises = (before_trans low mid set.name before rises.0, rises.1)
 
-rises-remove : (low : List ℕ) (sets : List TuneSet) (n : ℕ) → RisesFrom low sets → RisesFrom low (take n sets ++ drop (suc n) sets)
+rises-remove : (low : List ℕ) (sets : List TuneSet) (n : ℕ) → NamesRiseFrom low sets → NamesRiseFrom low (take n sets ++ drop (suc n) sets)
 rises-remove low [] zero rises = tt
 rises-remove low [] (suc n) rises = tt
 rises-remove low (set ∷ sets) zero rises = rises-below low set.name sets rises.0 rises.1
 rises-remove low (set ∷ sets) (suc n) rises = (rises.0, rises-remove set.name sets n rises.1)
 
-rises-set : (low : List ℕ) (sets : List TuneSet) (n : ℕ) (d new : TuneSet) → RisesFrom low sets → n < length sets → new.name ≡ (get_or sets n d).name
-    → RisesFrom low (slice_set sets n new)
+rises-set : (low : List ℕ) (sets : List TuneSet) (n : ℕ) (d new : TuneSet) → NamesRiseFrom low sets → n < length sets → new.name ≡ (get_or sets n d).name
+    → NamesRiseFrom low (slice_set sets n new)
 rises-set low [] n d new rises l e = absurd (omega arith)
 rises-set low (set ∷ sets) zero d new rises l e =
-    (ap (is_before low) e ∙ rises.0, subst (λ (name : List ℕ). RisesFrom name sets) (sym e) rises.1)
+    (ap (is_before low) e ∙ rises.0, subst (λ (name : List ℕ). NamesRiseFrom name sets) (sym e) rises.1)
 rises-set low (set ∷ sets) (suc n) d new rises l e = (rises.0, rises-set set.name sets n d new rises.1 (omega arith) e)
 
-rises-insert : (low : List ℕ) (sets : List TuneSet) (n : ℕ) (new : TuneSet) → RisesFrom low sets → is_before low new.name ≡ true
+rises-insert : (low : List ℕ) (sets : List TuneSet) (n : ℕ) (new : TuneSet) → NamesRiseFrom low sets → is_before low new.name ≡ true
     → n ≤ length sets → AllWithin (λ set. is_before set.name new.name ≡ true) sets 0 n
-    → AllWithin (λ set. is_before new.name set.name ≡ true) sets n (length sets) → RisesFrom low (take n sets ++ new ∷ drop n sets)
+    → AllWithin (λ set. is_before new.name set.name ≡ true) sets n (length sets) → NamesRiseFrom low (take n sets ++ new ∷ drop n sets)
 rises-insert low [] zero new rises before l lesser greater = (before, tt)
 rises-insert low [] (suc n) new rises before l lesser greater = absurd (omega arith)
 rises-insert low (set ∷ sets) zero new rises before l lesser greater = (before, (greater 0 set (omega arith) (omega arith), rises.1))
@@ -168,7 +168,7 @@ narrow_renumbered : (from to : ℕ) (numbers : List ℕ) → to < 2 ^ 32 → Nar
 narrow_renumbered from to [] small narrow = tt
 narrow_renumbered from to (n ∷ numbers) small narrow = (small_renumbered from to n small narrow.0, narrow_renumbered from to numbers small narrow.1)
 
-rises_renumbered : (from to : ℕ) (low : List ℕ) (sets : List TuneSet) → RisesFrom low sets → RisesFrom low (renumbered_sets from to sets)
+rises_renumbered : (from to : ℕ) (low : List ℕ) (sets : List TuneSet) → NamesRiseFrom low sets → NamesRiseFrom low (renumbered_sets from to sets)
 rises_renumbered from to low [] rises = tt
 rises_renumbered from to low (set ∷ sets) rises = (rises.0, rises_renumbered from to set.name sets rises.1)
 

@@ -13,7 +13,7 @@ use Rattle.std.proofs.lemmas.Map.Text.{is_eq-slice_cmp}
 use Rattle.tune_sets.specs.Limits.{most_places, most_sets}
 use Rattle.tune_sets.specs.Names.{is_good_name, is_before}
 use Rattle.tune_sets.specs.Numbers.{has_place}
-use Rattle.tune_sets.specs.Sets.{IsTuneSet, RisesFrom, AreSetLists, set_at, inserted, empty_set, with_numbers, without}
+use Rattle.tune_sets.specs.Sets.{IsTuneSet, NamesRiseFrom, AreSetLists, set_at, set_inserted, empty_set, with_numbers, without_set}
 use Rattle.tune_sets.specs.Calls.{create_unless, create_set, add_to, add_number, cut_from, cut_place, drop_found, drop_set}
 use Rattle.tune_sets.specs.declared.set_lists.TuneSet.{TuneSet}
 use Rattle.tune_sets.proofs.NameOrder.{good_after}
@@ -35,7 +35,7 @@ after name other nay differs =
         cc
 
 -- A SET WITH OTHER NUMBERS
-rises-with_numbers : (low name numbers : List ℕ) (sets : List TuneSet) → RisesFrom low sets → RisesFrom low (with_numbers name numbers sets)
+rises-with_numbers : (low name numbers : List ℕ) (sets : List TuneSet) → NamesRiseFrom low sets → NamesRiseFrom low (with_numbers name numbers sets)
 rises-with_numbers low name numbers [] rises = tt
 rises-with_numbers low name numbers (set ∷ sets) rises = elim (cases_Bool (bytes_eq set.name name)) [
   | inl same ↦ rw same (rises.0, rises.1)
@@ -66,8 +66,8 @@ with_numbers_are name numbers sets are few narrow = record {
 }
 
 -- A SET MORE
-rises-inserted : (low : List ℕ) (new : TuneSet) (sets : List TuneSet) → RisesFrom low sets → is_before low new.name ≡ true → set_at new.name sets ≡ None
-    → RisesFrom low (inserted new sets)
+rises-inserted : (low : List ℕ) (new : TuneSet) (sets : List TuneSet) → NamesRiseFrom low sets → is_before low new.name ≡ true → set_at new.name sets ≡ None
+    → NamesRiseFrom low (set_inserted new sets)
 rises-inserted low new [] rises before none = (before, tt)
 rises-inserted low new (set ∷ sets) rises before none = elim (cases_Bool (is_before new.name set.name)) [
   | inl lesser ↦ rw lesser (before, (lesser, rises.1))
@@ -78,14 +78,14 @@ rises-inserted low new (set ∷ sets) rises before none = elim (cases_Bool (is_b
   ]
 ]
 
-each-inserted : (new : TuneSet) (sets : List TuneSet) → AllByRecursion IsTuneSet sets → IsTuneSet new → AllByRecursion IsTuneSet (inserted new sets)
+each-inserted : (new : TuneSet) (sets : List TuneSet) → AllByRecursion IsTuneSet sets → IsTuneSet new → AllByRecursion IsTuneSet (set_inserted new sets)
 each-inserted new [] each is = (is, tt)
 each-inserted new (set ∷ sets) each is = elim (cases_Bool (is_before new.name set.name)) [
   | inl lesser ↦ rw lesser (is, each)
   | inr not_lesser ↦ rw not_lesser (each.0, each-inserted new sets each.1 is)
 ]
 
-length-inserted : (new : TuneSet) (sets : List TuneSet) → length (inserted new sets) ≡ length sets + 1
+length-inserted : (new : TuneSet) (sets : List TuneSet) → length (set_inserted new sets) ≡ length sets + 1
 length-inserted new [] = refl
 length-inserted new (set ∷ sets) = elim (cases_Bool (is_before new.name set.name)) [
   | inl lesser ↦ rw lesser (omega arith)
@@ -93,7 +93,7 @@ length-inserted new (set ∷ sets) = elim (cases_Bool (is_before new.name set.na
 ]
 
 inserted_are : (name : List ℕ) (sets : List TuneSet) → AreSetLists sets → is_good_name name ≡ true → set_at name sets ≡ None → length sets < most_sets
-    → AreSetLists (inserted (empty_set name) sets)
+    → AreSetLists (set_inserted (empty_set name) sets)
 inserted_are name sets are good none room =
     let is : IsTuneSet (empty_set name) = record { name = good; places = omega arith; numbers = tt } in
     record {
@@ -103,28 +103,28 @@ inserted_are name sets are good none room =
     }
 
 -- A SET LESS
-rises-without : (low name : List ℕ) (sets : List TuneSet) → RisesFrom low sets → RisesFrom low (without name sets)
+rises-without : (low name : List ℕ) (sets : List TuneSet) → NamesRiseFrom low sets → NamesRiseFrom low (without_set name sets)
 rises-without low name [] rises = tt
 rises-without low name (set ∷ sets) rises = elim (cases_Bool (bytes_eq set.name name)) [
   | inl same ↦ rw same (rises-below low set.name sets rises.0 rises.1)
   | inr other ↦ rw other (rises.0, rises-without set.name name sets rises.1)
 ]
 
-each-without : (name : List ℕ) (sets : List TuneSet) → AllByRecursion IsTuneSet sets → AllByRecursion IsTuneSet (without name sets)
+each-without : (name : List ℕ) (sets : List TuneSet) → AllByRecursion IsTuneSet sets → AllByRecursion IsTuneSet (without_set name sets)
 each-without name [] each = tt
 each-without name (set ∷ sets) each = elim (cases_Bool (bytes_eq set.name name)) [
   | inl same ↦ rw same each.1
   | inr other ↦ rw other (each.0, each-without name sets each.1)
 ]
 
-length-without : (name : List ℕ) (sets : List TuneSet) → length (without name sets) ≤ length sets
+length-without : (name : List ℕ) (sets : List TuneSet) → length (without_set name sets) ≤ length sets
 length-without name [] = omega arith
 length-without name (set ∷ sets) = elim (cases_Bool (bytes_eq set.name name)) [
   | inl same ↦ rw same (omega arith)
   | inr other ↦ rw other (omega (arith, length-without name sets))
 ]
 
-without_are : (name : List ℕ) (sets : List TuneSet) → AreSetLists sets → AreSetLists (without name sets)
+without_are : (name : List ℕ) (sets : List TuneSet) → AreSetLists sets → AreSetLists (without_set name sets)
 without_are name sets are = record {
   rises = rises-without [] name sets are.rises;
   each = each-without name sets are.each;

@@ -8,9 +8,10 @@ use Rattle.std.proofs.lemmas.Slice.Eq.{bytes_eq-Decides}
 use Rattle.tune_sets.specs.Names.{is_good_name, is_before}
 use Rattle.tune_sets.specs.Limits.{most_places, most_sets}
 use Rattle.tune_sets.specs.Numbers.{renumbered, renumbered_all, is_among, has_place}
-use Rattle.tune_sets.specs.Sets.{RisesFrom, AreSetLists, set_at, holder, inserted, empty_set, with_numbers, without, renumbered_set, renumbered_sets}
+use Rattle.tune_sets.specs.Sets.{NamesRiseFrom, AreSetLists, set_at, holder, set_inserted, empty_set, with_numbers, without_set, renumbered_set}
+use Rattle.tune_sets.specs.Sets.{renumbered_sets}
 use Rattle.tune_sets.specs.Calls.{create_unless, create_set, add_to, add_number, cut_from, cut_place, drop_found, drop_set, places_found, places_of}
-use Rattle.tune_sets.specs.Laws.{Leaves, HoldsNumber, IsLeastHolder}
+use Rattle.tune_sets.specs.Laws.{LeavesPlaces, HoldsNumber, IsLeastHolder}
 use Rattle.tune_sets.specs.declared.faults.SetFault.TheVariants.{NoSuchSet}
 use Rattle.tune_sets.specs.declared.set_lists.TuneSet.{TuneSet}
 use Rattle.tune_sets.proofs.NameOrder.{same_name, before_other, before_differs, before_trans}
@@ -24,7 +25,7 @@ differs name other ne = elim (cases_Bool (bytes_eq name other)) [
 ]
 
 -- A SET MORE
-pub set_at-inserted_same : (new : TuneSet) (sets : List TuneSet) → set_at new.name sets ≡ None → set_at new.name (inserted new sets) ≡ Some new
+pub set_at-inserted_same : (new : TuneSet) (sets : List TuneSet) → set_at new.name sets ≡ None → set_at new.name (set_inserted new sets) ≡ Some new
 set_at-inserted_same new [] none = rw (same_name new.name new.name refl) refl
 set_at-inserted_same new (set ∷ sets) none = elim (cases_Bool (is_before new.name set.name)) [
   | inl lesser ↦ rw (lesser, same_name new.name new.name refl) refl
@@ -34,7 +35,7 @@ set_at-inserted_same new (set ∷ sets) none = elim (cases_Bool (is_before new.n
   ]
 ]
 
-pub set_at-inserted_other : (name : List ℕ) (new : TuneSet) (sets : List TuneSet) → name ≢ new.name → set_at name (inserted new sets) ≡ set_at name sets
+pub set_at-inserted_other : (name : List ℕ) (new : TuneSet) (sets : List TuneSet) → name ≢ new.name → set_at name (set_inserted new sets) ≡ set_at name sets
 set_at-inserted_other name new [] ne = rw (differs new.name name ne) refl
 set_at-inserted_other name new (set ∷ sets) ne = elim (cases_Bool (is_before new.name set.name)) [
   | inl lesser ↦ rw (lesser, differs new.name name ne) refl
@@ -66,21 +67,21 @@ set_at-with_numbers_other name other numbers (first ∷ sets) ne = elim (cases_B
 
 -- A SET LESS
 -- where names rise from above this one, no set has it
-set_at-below : (name : List ℕ) (sets : List TuneSet) → RisesFrom name sets → set_at name sets ≡ None
+set_at-below : (name : List ℕ) (sets : List TuneSet) → NamesRiseFrom name sets → set_at name sets ≡ None
 set_at-below name [] rises = refl
 set_at-below name (set ∷ sets) rises =
     rw (before_other name set.name rises.0) (set_at-below name sets (rises-below name set.name sets rises.0 rises.1))
 
-set_at-without_same : (low name : List ℕ) (sets : List TuneSet) → RisesFrom low sets → set_at name (without name sets) ≡ None
+set_at-without_same : (low name : List ℕ) (sets : List TuneSet) → NamesRiseFrom low sets → set_at name (without_set name sets) ≡ None
 set_at-without_same low name [] rises = refl
 set_at-without_same low name (set ∷ sets) rises = elim (cases_Bool (bytes_eq set.name name)) [
   | inl same ↦
       let e = (bytes_eq-Decides set.name name).0 same in
-      rw same (set_at-below name sets (subst (λ (n : List ℕ). RisesFrom n sets) e rises.1))
+      rw same (set_at-below name sets (subst (λ (n : List ℕ). NamesRiseFrom n sets) e rises.1))
   | inr nay ↦ rw (nay, nay) (set_at-without_same set.name name sets rises.1)
 ]
 
-pub set_at-without_other : (name other : List ℕ) (sets : List TuneSet) → other ≢ name → set_at other (without name sets) ≡ set_at other sets
+pub set_at-without_other : (name other : List ℕ) (sets : List TuneSet) → other ≢ name → set_at other (without_set name sets) ≡ set_at other sets
 set_at-without_other name other [] ne = refl
 set_at-without_other name other (set ∷ sets) ne = elim (cases_Bool (bytes_eq set.name name)) [
   | inl same ↦
@@ -149,7 +150,7 @@ holder-none number (first ∷ sets) name set none found = elim (cases_Bool (is_a
 ]
 
 -- the holder is above what the names rise from
-holder-above : (low : List ℕ) (number : ℕ) (sets : List TuneSet) (name : List ℕ) → RisesFrom low sets → holder number sets ≡ Some name
+holder-above : (low : List ℕ) (number : ℕ) (sets : List TuneSet) (name : List ℕ) → NamesRiseFrom low sets → holder number sets ≡ Some name
     → is_before low name ≡ true
 holder-above low number [] name rises holds = cc
 holder-above low number (first ∷ sets) name rises holds = elim (cases_Bool (is_among number first.numbers)) [
@@ -158,7 +159,7 @@ holder-above low number (first ∷ sets) name rises holds = elim (cases_Bool (is
 ]
 
 -- it has a set, in which the number is
-pub holder-holds : (low : List ℕ) (number : ℕ) (sets : List TuneSet) (name : List ℕ) → RisesFrom low sets → holder number sets ≡ Some name
+pub holder-holds : (low : List ℕ) (number : ℕ) (sets : List TuneSet) (name : List ℕ) → NamesRiseFrom low sets → holder number sets ≡ Some name
     → (set : TuneSet) × (set_at name sets ≡ Some set) × (is_among number set.numbers ≡ true)
 holder-holds low number [] name rises holds = cc
 holder-holds low number (first ∷ sets) name rises holds = elim (cases_Bool (is_among number first.numbers)) [
@@ -171,7 +172,7 @@ holder-holds low number (first ∷ sets) name rises holds = elim (cases_Bool (is
 ]
 
 -- and no lesser name has one
-pub holder-least : (low : List ℕ) (number : ℕ) (sets : List TuneSet) (name other : List ℕ) (set : TuneSet) → RisesFrom low sets
+pub holder-least : (low : List ℕ) (number : ℕ) (sets : List TuneSet) (name other : List ℕ) (set : TuneSet) → NamesRiseFrom low sets
     → holder number sets ≡ Some name → is_before other name ≡ true → set_at other sets ≡ Some set → is_among number set.numbers ≡ false
 holder-least low number [] name other set rises holds lesser found = cc
 holder-least low number (first ∷ sets) name other set rises holds lesser found = elim (cases_Bool (is_among number first.numbers)) [
@@ -191,7 +192,7 @@ holder-least low number (first ∷ sets) name other set rises holds lesser found
       ]
 ]
   where
-    set_at-low : (name low : List ℕ) (sets : List TuneSet) → is_before name low ≡ true → RisesFrom low sets → set_at name sets ≡ None
+    set_at-low : (name low : List ℕ) (sets : List TuneSet) → is_before name low ≡ true → NamesRiseFrom low sets → set_at name sets ≡ None
     set_at-low name low sets before rises = set_at-below name sets (rises-below name low sets before rises)
 
 -- so the holder is the least one
@@ -218,7 +219,7 @@ places_same : (name : List ℕ) (sets others : List TuneSet) → set_at name set
 places_same name sets others e = ap places_found e
 
 created_by : (name : List ℕ) (sets : List TuneSet) (found : Option TuneSet) (full : Bool) → set_at name sets ≡ found → leb most_sets (length sets) ≡ full
-    → IsOk (create_unless name sets found).1 → Leaves name (Ok []) sets (create_unless name sets found).0
+    → IsOk (create_unless name sets found).1 → LeavesPlaces name (Ok []) sets (create_unless name sets found).0
 created_by name sets (Some set) full is size ok = cc
 created_by name sets None true is size ok = let nay = rw size at ok in cc
 created_by name sets None false is size ok = rw size record {
@@ -226,21 +227,21 @@ created_by name sets None false is size ok = rw size record {
   others = λ other ne. ap places_found (set_at-inserted_other other (empty_set name) sets ne);
 }
 
-pub created : (name : List ℕ) (sets : List TuneSet) → IsOk (create_set name sets).1 → Leaves name (Ok []) sets (create_set name sets).0
+pub created : (name : List ℕ) (sets : List TuneSet) → IsOk (create_set name sets).1 → LeavesPlaces name (Ok []) sets (create_set name sets).0
 created name sets ok = elim (cases_Bool (is_good_name name)) [
   | inl good ↦ let yes = rw good at ok in rw good (created_by name sets (set_at name sets) _ refl refl yes)
   | inr bad ↦ let nay = rw bad at ok in cc
 ]
 
 changed_by : (name numbers : List ℕ) (sets : List TuneSet) (set : TuneSet) → set_at name sets ≡ Some set
-    → Leaves name (Ok numbers) sets (with_numbers name numbers sets)
+    → LeavesPlaces name (Ok numbers) sets (with_numbers name numbers sets)
 changed_by name numbers sets set is = record {
   its = ap places_found (set_at-with_numbers_same name numbers sets set is);
   others = λ other ne. ap places_found (set_at-with_numbers_other name other numbers sets ne);
 }
 
 added_by : (name : List ℕ) (number : ℕ) (sets : List TuneSet) (found : Option TuneSet) (old : List ℕ) → set_at name sets ≡ found
-    → places_found found ≡ Ok old → IsOk (add_to name number sets found).1 → Leaves name (Ok (old ++ number ∷ [])) sets (add_to name number sets found).0
+    → places_found found ≡ Ok old → IsOk (add_to name number sets found).1 → LeavesPlaces name (Ok (old ++ number ∷ [])) sets (add_to name number sets found).0
 added_by name number sets None old is was ok = cc
 added_by name number sets (Some set) old is was ok = elim (cases_Bool (leb most_places (length set.numbers))) [
   | inl full ↦ let nay = rw full at ok in cc
@@ -250,11 +251,12 @@ added_by name number sets (Some set) old is was ok = elim (cases_Bool (leb most_
 ]
 
 pub added : (name : List ℕ) (number : ℕ) (sets : List TuneSet) (old : List ℕ) → places_of name sets ≡ Ok old → IsOk (add_number name number sets).1
-    → Leaves name (Ok (old ++ number ∷ [])) sets (add_number name number sets).0
+    → LeavesPlaces name (Ok (old ++ number ∷ [])) sets (add_number name number sets).0
 added name number sets old was ok = added_by name number sets (set_at name sets) old refl was ok
 
 cut_by : (name : List ℕ) (place : ℕ) (sets : List TuneSet) (found : Option TuneSet) (old : List ℕ) → set_at name sets ≡ found
-    → places_found found ≡ Ok old → IsOk (cut_from name place sets found).1 → Leaves name (Ok (remove old (place - 1))) sets (cut_from name place sets found).0
+    → places_found found ≡ Ok old → IsOk (cut_from name place sets found).1
+    → LeavesPlaces name (Ok (remove old (place - 1))) sets (cut_from name place sets found).0
 cut_by name place sets None old is was ok = cc
 cut_by name place sets (Some set) old is was ok = elim (cases_Bool (has_place place set.numbers)) [
   | inl there ↦
@@ -264,19 +266,19 @@ cut_by name place sets (Some set) old is was ok = elim (cases_Bool (has_place pl
 ]
 
 pub cut_one : (name : List ℕ) (place : ℕ) (sets : List TuneSet) (old : List ℕ) → places_of name sets ≡ Ok old → IsOk (cut_place name place sets).1
-    → Leaves name (Ok (remove old (place - 1))) sets (cut_place name place sets).0
+    → LeavesPlaces name (Ok (remove old (place - 1))) sets (cut_place name place sets).0
 cut_one name place sets old was ok = cut_by name place sets (set_at name sets) old refl was ok
 
-dropped_by : (name : List ℕ) (sets : List TuneSet) (found : Option TuneSet) → RisesFrom [] sets → IsOk (drop_found name sets found).1
-    → Leaves name (Err NoSuchSet) sets (drop_found name sets found).0
+dropped_by : (name : List ℕ) (sets : List TuneSet) (found : Option TuneSet) → NamesRiseFrom [] sets → IsOk (drop_found name sets found).1
+    → LeavesPlaces name (Err NoSuchSet) sets (drop_found name sets found).0
 dropped_by name sets None rises ok = cc
 dropped_by name sets (Some set) rises ok = record {
   its = ap places_found (set_at-without_same [] name sets rises);
   others = λ other ne. ap places_found (set_at-without_other name other sets ne);
 }
 
-pub dropped : (name : List ℕ) (sets : List TuneSet) → RisesFrom [] sets → IsOk (drop_set name sets).1
-    → Leaves name (Err NoSuchSet) sets (drop_set name sets).0
+pub dropped : (name : List ℕ) (sets : List TuneSet) → NamesRiseFrom [] sets → IsOk (drop_set name sets).1
+    → LeavesPlaces name (Err NoSuchSet) sets (drop_set name sets).0
 dropped name sets rises ok = dropped_by name sets (set_at name sets) rises ok
 
 renumbered_by : (from to : ℕ) (found : Option TuneSet) (old : List ℕ) → places_found found ≡ Ok old

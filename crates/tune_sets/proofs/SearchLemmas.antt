@@ -11,20 +11,20 @@ use Rattle.std.proofs.lemmas.Bool.{cases_lt}
 use Rattle.std.proofs.lemmas.Cmp.{nat_list_cmp_total}
 use Rattle.std.proofs.lemmas.Map.Lookups.{exact_bytes}
 use Rattle.tune_sets.specs.Names.{is_before}
-use Rattle.tune_sets.specs.Sets.{RisesFrom, set_at, inserted, with_numbers, without}
+use Rattle.tune_sets.specs.Sets.{NamesRiseFrom, set_at, set_inserted, with_numbers, without_set}
 use Rattle.tune_sets.specs.Inside.Search.{NameFoundAt, NameMissingAt, last_name}
 use Rattle.tune_sets.specs.declared.set_lists.TuneSet.{TuneSet}
 use Rattle.tune_sets.proofs.NameOrder.{before_trans, before_other, before_differs, before_not_after, same_name, cmp_rises}
 
 -- RISING NAMES
 -- each name is above what the list rises from
-pub above : (low : List ℕ) (sets : List TuneSet) (n : ℕ) (d : TuneSet) → RisesFrom low sets → n < length sets → is_before low (get_or sets n d).name ≡ true
+pub above : (low : List ℕ) (sets : List TuneSet) (n : ℕ) (d : TuneSet) → NamesRiseFrom low sets → n < length sets → is_before low (get_or sets n d).name ≡ true
 above low [] n d rises l = absurd (omega arith)
 above low (set ∷ sets) zero d rises l = rises.0
 above low (set ∷ sets) (suc n) d rises l = before_trans low set.name _ rises.0 (above set.name sets n d rises.1 (omega arith))
 
 -- names rise with the index
-pub ordered : (low : List ℕ) (sets : List TuneSet) (i j : ℕ) (d : TuneSet) → RisesFrom low sets → i < j → j < length sets
+pub ordered : (low : List ℕ) (sets : List TuneSet) (i j : ℕ) (d : TuneSet) → NamesRiseFrom low sets → i < j → j < length sets
     → is_before (get_or sets i d).name (get_or sets j d).name ≡ true
 ordered low [] i j d rises lt l = absurd (omega arith)
 ordered low (set ∷ sets) i zero d rises lt l = absurd (omega arith)
@@ -32,7 +32,7 @@ ordered low (set ∷ sets) zero (suc j) d rises lt l = above set.name sets j d r
 ordered low (set ∷ sets) (suc i) (suc j) d rises lt l = ordered set.name sets i j d rises.1 (omega arith) (omega arith)
 
 -- so do their comparisons with a name
-pub comparisons_rise : (name : List ℕ) (sets : List TuneSet) → RisesFrom [] sets
+pub comparisons_rise : (name : List ℕ) (sets : List TuneSet) → NamesRiseFrom [] sets
     → IsNonDecreasingBy (λ set. ordering_index (slice_cmp nat_cmp set.name name)) sets
 comparisons_rise name sets rises i j d le l = elim (cases_lt i j) [
   | inl lt ↦ cmp_rises (get_or sets i d).name (get_or sets j d).name name (ordered [] sets i j d rises lt l)
@@ -41,7 +41,7 @@ comparisons_rise name sets rises i j d le l = elim (cases_lt i j) [
 
 -- THE SET OF A NAME
 -- the set at an index is the set of its name
-pub set_at-index : (low name : List ℕ) (sets : List TuneSet) (n : ℕ) (d : TuneSet) → RisesFrom low sets → n < length sets → (get_or sets n d).name ≡ name
+pub set_at-index : (low name : List ℕ) (sets : List TuneSet) (n : ℕ) (d : TuneSet) → NamesRiseFrom low sets → n < length sets → (get_or sets n d).name ≡ name
     → set_at name sets ≡ Some (get_or sets n d)
 set_at-index low name [] n d rises l e = absurd (omega arith)
 set_at-index low name (set ∷ sets) zero d rises l e = rw (same_name set.name name e) refl
@@ -51,7 +51,7 @@ set_at-index low name (set ∷ sets) (suc n) d rises l e =
     rw other (set_at-index set.name name sets n d rises.1 (omega arith) e)
 
 -- it gets other numbers at its index
-pub with_numbers-index : (low name numbers : List ℕ) (sets : List TuneSet) (n : ℕ) (d : TuneSet) → RisesFrom low sets → n < length sets
+pub with_numbers-index : (low name numbers : List ℕ) (sets : List TuneSet) (n : ℕ) (d : TuneSet) → NamesRiseFrom low sets → n < length sets
     → (get_or sets n d).name ≡ name
     → with_numbers name numbers sets ≡ slice_set sets n (record { name = (get_or sets n d).name; numbers = numbers })
 with_numbers-index low name numbers [] n d rises l e = absurd (omega arith)
@@ -62,8 +62,8 @@ with_numbers-index low name numbers (set ∷ sets) (suc n) d rises l e =
     rw other (ap (λ more. set ∷ more) (with_numbers-index set.name name numbers sets n d rises.1 (omega arith) e))
 
 -- it is taken out at its index
-pub without-index : (low name : List ℕ) (sets : List TuneSet) (n : ℕ) (d : TuneSet) → RisesFrom low sets → n < length sets → (get_or sets n d).name ≡ name
-    → without name sets ≡ take n sets ++ drop (suc n) sets
+pub without-index : (low name : List ℕ) (sets : List TuneSet) (n : ℕ) (d : TuneSet) → NamesRiseFrom low sets → n < length sets → (get_or sets n d).name ≡ name
+    → without_set name sets ≡ take n sets ++ drop (suc n) sets
 without-index low name [] n d rises l e = absurd (omega arith)
 without-index low name (set ∷ sets) zero d rises l e = rw (same_name set.name name e) refl
 without-index low name (set ∷ sets) (suc n) d rises l e =
@@ -82,7 +82,7 @@ set_at-none name (set ∷ sets) other =
 pub inserted-index : (new : TuneSet) (sets : List TuneSet) (n : ℕ) → n ≤ length sets
     → AllWithin (λ set. is_before set.name new.name ≡ true) sets 0 n
     → AllWithin (λ set. is_before new.name set.name ≡ true) sets n (length sets)
-    → inserted new sets ≡ take n sets ++ new ∷ drop n sets
+    → set_inserted new sets ≡ take n sets ++ new ∷ drop n sets
 inserted-index new [] zero l lesser greater = refl
 inserted-index new [] (suc n) l lesser greater = absurd (omega arith)
 inserted-index new (set ∷ sets) zero l lesser greater = rw (greater 0 set (omega arith) (omega arith)) refl
@@ -92,7 +92,7 @@ inserted-index new (set ∷ sets) (suc n) l lesser greater =
     (λ k d from to. greater (suc k) d (omega arith) (omega arith))))
 
 -- FOUND OR MISSING
-pub found_set : (name : List ℕ) (index : ℕ) (sets : List TuneSet) (set : TuneSet) → RisesFrom [] sets → NameFoundAt name index sets
+pub found_set : (name : List ℕ) (index : ℕ) (sets : List TuneSet) (set : TuneSet) → NamesRiseFrom [] sets → NameFoundAt name index sets
     → set ≡ get_or sets index set → set_at name sets ≡ Some set
 found_set name index sets set rises found is = set_at-index [] name sets index set rises found.within (found.named set) ∙ ap (λ s. Some s) (sym is)
 
@@ -119,7 +119,7 @@ pub found_from : (name : List ℕ) (sets : List TuneSet) (r : Result ℕ ℕ) �
 found_from name sets (Ok index) within equal = record { within = within; named = λ d. exact_bytes (get_or sets index d).name name (equal d) }
 found_from name sets (Err index) within parts = tt
 
-pub missing_from : (name : List ℕ) (sets : List TuneSet) (r : Result ℕ ℕ) → RisesFrom [] sets → IsSearchInRange r (length sets)
+pub missing_from : (name : List ℕ) (sets : List TuneSet) (r : Result ℕ ℕ) → NamesRiseFrom [] sets → IsSearchInRange r (length sets)
     → IsBinarySearchResult (λ set. slice_cmp nat_cmp set.name name) sets r → IfErr r (λ index. NameMissingAt name index sets)
 missing_from name sets (Ok index) rises within equal = tt
 missing_from name sets (Err index) rises within parts =

@@ -7,7 +7,7 @@ use Rattle.std.specs.List.{remove}
 use Rattle.tune_sets.specs.Limits.{most_places, most_sets}
 use Rattle.tune_sets.specs.Names.{is_good_name}
 use Rattle.tune_sets.specs.Numbers.{has_place}
-use Rattle.tune_sets.specs.Sets.{set_at, inserted, empty_set, with_numbers, without}
+use Rattle.tune_sets.specs.Sets.{set_at, set_inserted, empty_set, with_numbers, without_set}
 use Rattle.tune_sets.specs.declared.set_lists.TuneSet.{TuneSet}
 use Rattle.tune_sets.specs.declared.set_rows.SetRow.{SetRow}
 use Rattle.tune_sets.specs.declared.faults.SetFault.{SetFault}
@@ -31,7 +31,7 @@ abbrev pub create_unless : List ℕ → List TuneSet → Option TuneSet → Sets
 create_unless name sets (Some set) = (sets, Err SetTaken)
 create_unless name sets None =
     if nat_le most_sets (length sets) then (sets, Err SetsFull)
-    else (inserted (empty_set name) sets, Ok tt)
+    else (set_inserted (empty_set name) sets, Ok tt)
 
 -- a set without a place, under a name that is good and that no set has
 abbrev pub create_set : List ℕ → List TuneSet → SetsOutcome (Unit {0})
@@ -65,7 +65,7 @@ cut_place name place sets = cut_from name place sets (set_at name sets)
 -- A SET LESS
 abbrev pub drop_found : List ℕ → List TuneSet → Option TuneSet → SetsOutcome (Unit {0})
 drop_found name sets None = (sets, Err NoSuchSet)
-drop_found name sets (Some set) = (without name sets, Ok tt)
+drop_found name sets (Some set) = (without_set name sets, Ok tt)
 
 -- without the set of a name
 abbrev pub drop_set : List ℕ → List TuneSet → SetsOutcome (Unit {0})
@@ -81,8 +81,8 @@ abbrev pub places_of : List ℕ → List TuneSet → Result (List ℕ) SetFault
 places_of name sets = places_found (set_at name sets)
 
 -- the row of a set: its name, and how many places it has
-abbrev pub row_of : TuneSet → SetRow
-row_of set = record { name = set.name; places = length set.numbers }
+abbrev pub set_row_of : TuneSet → SetRow
+set_row_of set = record { name = set.name; places = length set.numbers }
 
-abbrev pub rows_of : List TuneSet → List SetRow
-rows_of sets = map row_of sets
+abbrev pub set_rows_of : List TuneSet → List SetRow
+set_rows_of sets = map set_row_of sets

@@ -9,7 +9,7 @@ use Rattle.tune_sets.specs.declared.faults.SetFault.{SetFault}
 
 -- The set of a name has these places afterwards, or is refused so; each other name has the places
 -- that it had, or is refused as it was.
-pub record Leaves (name : List ℕ) (places : Result (List ℕ) SetFault) (old new : List TuneSet)
+pub record LeavesPlaces (name : List ℕ) (places : Result (List ℕ) SetFault) (old new : List TuneSet)
     : Type 0 where
   pub its : places_of name new ≡ places
   pub others : (other : List ℕ) → other ≢ name → places_of other new ≡ places_of other old

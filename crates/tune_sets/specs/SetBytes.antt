@@ -13,11 +13,11 @@ abbrev pub written_name : List ℕ → List ℕ
 written_name name = length name ∷ name
 
 -- a set: its name, how many places it has, in two bytes, and the numbers at them
-abbrev pub written_set : TuneSet → List ℕ
-written_set set =
+abbrev pub stored_set : TuneSet → List ℕ
+stored_set set =
     written_name set.name ++ (big_bytes 2 (length set.numbers) ++ written_numbers set.numbers)
 
 -- sets, one after another
 abbrev pub written_sets : List TuneSet → List ℕ
 written_sets [] = []
-written_sets (set ∷ sets) = written_set set ++ written_sets sets
+written_sets (set ∷ sets) = stored_set set ++ written_sets sets

@@ -16,13 +16,13 @@ pub record IsTuneSet (set : TuneSet) : Type 0 where
   pub numbers : AllByRecursion (λ n. n < 2 ^ 32) set.numbers
 
 -- names rise strictly, from above this one
-abbrev pub RisesFrom : List ℕ → List TuneSet → Type 0
-RisesFrom low [] = ⊤
-RisesFrom low (set ∷ sets) = (is_before low set.name ≡ true) × RisesFrom set.name sets
+abbrev pub NamesRiseFrom : List ℕ → List TuneSet → Type 0
+NamesRiseFrom low [] = ⊤
+NamesRiseFrom low (set ∷ sets) = (is_before low set.name ≡ true) × NamesRiseFrom set.name sets
 
 -- sets by rising name, within the limits; the empty name stands before each good one
 pub record AreSetLists (sets : List TuneSet) : Type 0 where
-  pub rises : RisesFrom [] sets
+  pub rises : NamesRiseFrom [] sets
   pub each : AllByRecursion IsTuneSet sets
   pub count : length sets ≤ most_sets
 
@@ -40,10 +40,10 @@ holder number (set ∷ sets) =
 
 -- SETS CHANGED
 -- a set more, before the first one whose name is greater
-abbrev pub inserted : TuneSet → List TuneSet → List TuneSet
-inserted new [] = new ∷ []
-inserted new (set ∷ sets) =
-    if is_before new.name set.name then new ∷ set ∷ sets else set ∷ inserted new sets
+abbrev pub set_inserted : TuneSet → List TuneSet → List TuneSet
+set_inserted new [] = new ∷ []
+set_inserted new (set ∷ sets) =
+    if is_before new.name set.name then new ∷ set ∷ sets else set ∷ set_inserted new sets
 
 -- a set of this name, without a place
 abbrev pub empty_set : List ℕ → TuneSet
@@ -57,9 +57,9 @@ with_numbers name numbers (set ∷ sets) =
     else set ∷ with_numbers name numbers sets
 
 -- without the set of a name
-abbrev pub without : List ℕ → List TuneSet → List TuneSet
-without name [] = []
-without name (set ∷ sets) = if bytes_eq set.name name then sets else set ∷ without name sets
+abbrev pub without_set : List ℕ → List TuneSet → List TuneSet
+without_set name [] = []
+without_set name (set ∷ sets) = if bytes_eq set.name name then sets else set ∷ without_set name sets
 
 -- each place that named one number names the other
 abbrev pub renumbered_set : ℕ → ℕ → TuneSet → TuneSet

@@ -6,7 +6,7 @@ ghost use Rattle.tune_sets.specs.Numbers.{renumbered_all};
 ghost use Rattle.tune_sets.specs.Sets.{AreSetLists, holder, renumbered_sets};
 ghost use Rattle.tune_sets.specs.Calls.{create_set, add_number, cut_place, drop_set, places_of};
 ghost use Rattle.tune_sets.specs.SetBytes.{written_sets};
-ghost use Rattle.tune_sets.specs.Laws.{Leaves, HoldsNumber, IsLeastHolder};
+ghost use Rattle.tune_sets.specs.Laws.{LeavesPlaces, HoldsNumber, IsLeastHolder};
 ghost use Rattle.tune_sets.specs.declared.set_lists.TuneSet.{TuneSet};
 ghost use Rattle.tune_sets.specs.declared.faults.SetFault.TheVariants.{NoSuchSet};
 
@@ -22,16 +22,16 @@ ghost use Rattle.tune_sets.specs.declared.faults.SetFault.TheVariants.{NoSuchSet
 /// - `bytes`: the bytes of sets within the limits tell the sets.
 pub fn law_of_set_lists()
     ensures created { (name : List ℕ) (sets : List TuneSet) → IsOk (create_set name sets).1
-        → Leaves name (Ok []) sets (create_set name sets).0 }
+        → LeavesPlaces name (Ok []) sets (create_set name sets).0 }
     ensures added { (name : List ℕ) (number : ℕ) (sets : List TuneSet) (old : List ℕ)
         → places_of name sets ≡ Ok old → IsOk (add_number name number sets).1
-        → Leaves name (Ok (old ++ number ∷ [])) sets (add_number name number sets).0 }
+        → LeavesPlaces name (Ok (old ++ number ∷ [])) sets (add_number name number sets).0 }
     ensures cut { (name : List ℕ) (place : ℕ) (sets : List TuneSet) (old : List ℕ)
         → places_of name sets ≡ Ok old → IsOk (cut_place name place sets).1
-        → Leaves name (Ok (remove old (place - 1))) sets (cut_place name place sets).0 }
+        → LeavesPlaces name (Ok (remove old (place - 1))) sets (cut_place name place sets).0 }
     ensures dropped { (name : List ℕ) (sets : List TuneSet) → AreSetLists sets
         → IsOk (drop_set name sets).1
-        → Leaves name (Err NoSuchSet) sets (drop_set name sets).0 }
+        → LeavesPlaces name (Err NoSuchSet) sets (drop_set name sets).0 }
     ensures renumbered { (from to : ℕ) (name : List ℕ) (sets : List TuneSet) (old : List ℕ)
         → places_of name sets ≡ Ok old
         → places_of name (renumbered_sets from to sets) ≡ Ok (renumbered_all from to old) }

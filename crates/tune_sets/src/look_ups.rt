@@ -1,6 +1,6 @@
 // Where the set of a name stands, and what holds a number.
 ghost use Rattle.std.specs.Prelude.{◌≡◌, [], IfOk, IfErr};
-ghost use Rattle.tune_sets.specs.Sets.{RisesFrom, holder};
+ghost use Rattle.tune_sets.specs.Sets.{NamesRiseFrom, holder};
 ghost use Rattle.tune_sets.specs.Inside.Search.{NameFoundAt, NameMissingAt};
 
 use crate::names::SetName;
@@ -8,7 +8,7 @@ use crate::set_lists::TuneSet;
 
 // Where the set of a name stands, counted from 0, or where it would go.
 pub(crate) fn index_of(sets: &[TuneSet], name: &[u8]) -> Result<usize, usize>
-    requires { RisesFrom [] sets.now }
+    requires { NamesRiseFrom [] sets.now }
     ensures found { IfOk result (λ index. NameFoundAt name.now index sets.now) }
     ensures missing { IfErr result (λ index. NameMissingAt name.now index sets.now) }
 {

@@ -21,7 +21,7 @@ pub struct SetName {
 
 impl Model for SetName {
     ghost use Rattle.std.specs.Prelude.{ℕ, List, length, take};
-    ghost use Rattle.tune_sets.specs.Inside.HeldNames.{IsHeldName, padded};
+    ghost use Rattle.tune_sets.specs.Inside.HeldNames.{IsHeldName, padded_name};
 
     ghost Value = { List ℕ };
 
@@ -29,7 +29,7 @@ impl Model for SetName {
 
     ghost invariant = { λ name. IsHeldName name.len name.bytes };
 
-    ghost inverse = { λ name. record { bytes = padded name; len = length name } };
+    ghost inverse = { λ name. record { bytes = padded_name name; len = length name } };
 
     ghost inverse_ok = { λ name held i. record { bytes = held.zeros i; len = held.size i } };
 }

@@ -6,7 +6,7 @@ ghost use Rattle.byteorder.specs.Endian.{big_bytes};
 ghost use Rattle.tune_sets.specs.Limits.{most_places};
 ghost use Rattle.tune_sets.specs.Names.{is_good_name, is_before};
 ghost use Rattle.tune_sets.specs.Sets.{IsTuneSet, AreSetLists};
-ghost use Rattle.tune_sets.specs.SetBytes.{written_numbers, written_name, written_set};
+ghost use Rattle.tune_sets.specs.SetBytes.{written_numbers, written_name, stored_set};
 ghost use Rattle.tune_sets.specs.SetBytes.{written_sets};
 ghost use Rattle.tune_sets.specs.Inside.Search.{last_name};
 ghost use Rattle.tune_sets.specs.declared.set_lists.TuneSet.{TuneSet};
@@ -82,10 +82,10 @@ fn is_before(name: &[u8], other: &[u8]) -> bool
 
 // The set at the front of bytes, and the rest of them.
 fn read_set(alloc: Global, bytes: &[u8]) -> Result<(TuneSet, &[u8]), ReadFault>
-    ensures ok { IfOk result (λ r. IsTuneSet r.0 × (written_set r.0 ++ r.1.now ≡ bytes.now)) }
+    ensures ok { IfOk result (λ r. IsTuneSet r.0 × (stored_set r.0 ++ r.1.now ≡ bytes.now)) }
     ensures damaged { IfErr result (λ fault. (fault ≡ ReadFault.OutOfMemory)
         ⊎ ((fault ≡ ReadFault.Damaged) × ((set : TuneSet) (later : List ℕ) → IsTuneSet set
-        → written_set set ++ later ≢ bytes.now))) }
+        → stored_set set ++ later ≢ bytes.now))) }
 {
     let Some((name_bytes, rest)) = name_at_front(bytes) else {
         return Err(ReadFault::Damaged);

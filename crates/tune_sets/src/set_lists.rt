@@ -3,7 +3,7 @@ ghost use Rattle.std.specs.Prelude.{◌≡◌, [], OnErr, IfOk, IfErr, IfNone, I
 ghost use Rattle.std.specs.Prelude.{Ok, Err};
 ghost use Rattle.tune_sets.specs.Sets.{AreSetLists, holder, renumbered_sets};
 ghost use Rattle.tune_sets.specs.Calls.{StaysOrGives, create_set, add_number, cut_place};
-ghost use Rattle.tune_sets.specs.Calls.{drop_set, places_of, rows_of};
+ghost use Rattle.tune_sets.specs.Calls.{drop_set, places_of, set_rows_of};
 
 use crate::copies::copy_sets;
 use crate::faults::SetFault;
@@ -155,7 +155,7 @@ impl SetLists {
     /// A row for each set, by name: its name, and how many places it has. The error is out of
     /// memory.
     pub fn rows(&self) -> Result<SetRowList, AllocError>
-        ensures { IfOk result (λ rows. rows ≡ rows_of self.now) }
+        ensures { IfOk result (λ rows. rows ≡ set_rows_of self.now) }
     {
         let mut rows = Vec::with_capacity(self.alloc, self.sets.len())?;
         push_rows(&mut rows, &self.sets)?;

@@ -1,6 +1,6 @@
 // The names of sets, and how many places each has.
 ghost use Rattle.std.specs.Prelude.{◌≡◌, ◌++◌, List, length, OnOk};
-ghost use Rattle.tune_sets.specs.Calls.{rows_of};
+ghost use Rattle.tune_sets.specs.Calls.{set_rows_of};
 ghost use Rattle.tune_sets.specs.declared.set_rows.SetRow.{SetRow};
 
 use crate::names::SetName;
@@ -50,7 +50,7 @@ impl SetRowList {
 
 // Puts a row for each set behind these rows.
 pub(crate) fn push_rows(rows: &mut Vec<SetRow>, sets: &[TuneSet]) -> Result<(), AllocError>
-    ensures { OnOk result (rows.new.items ≡ rows.old.items ++ rows_of sets.now) }
+    ensures { OnOk result (rows.new.items ≡ rows.old.items ++ set_rows_of sets.now) }
 {
     for set in sets {
         let row = SetRow {

@@ -3,7 +3,7 @@ ghost use Rattle.std.specs.Prelude.{◌≡◌, ◌++◌, List, IfOk, OnOk};
 ghost use Rattle.std.specs.List.{AllByRecursion};
 ghost use Rattle.byteorder.specs.Endian.{big_bytes};
 ghost use Rattle.tune_sets.specs.Sets.{IsTuneSet, AreSetLists};
-ghost use Rattle.tune_sets.specs.SetBytes.{written_numbers, written_set, written_sets};
+ghost use Rattle.tune_sets.specs.SetBytes.{written_numbers, stored_set, written_sets};
 ghost use Rattle.tune_sets.specs.declared.set_lists.TuneSet.{TuneSet};
 
 use crate::set_lists::{SetLists, TuneSet};
@@ -38,7 +38,7 @@ fn write_sets(bytes: &mut Vec<u8>, sets: &[TuneSet]) -> Result<(), AllocError>
 
 fn write_set(bytes: &mut Vec<u8>, set: &TuneSet) -> Result<(), AllocError>
     requires { IsTuneSet set.now }
-    ensures { OnOk result (bytes.new.items ≡ bytes.old.items ++ written_set set.now) }
+    ensures { OnOk result (bytes.new.items ≡ bytes.old.items ++ stored_set set.now) }
 {
     let name = set.name.as_slice();
     let numbers = set.numbers.as_slice();

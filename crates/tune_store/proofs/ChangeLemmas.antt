@@ -13,14 +13,14 @@ use Rattle.abc_fields.specs.Tunes.{has_key, joined}
 use Rattle.tune_sets.specs.Numbers.{has_place}
 use Rattle.tune_sets.specs.Names.{is_good_name, is_before}
 use Rattle.tune_sets.specs.Limits.{most_places, most_sets}
-use Rattle.tune_sets.specs.Sets.{set_at, inserted, empty_set, with_numbers, without}
+use Rattle.tune_sets.specs.Sets.{set_at, set_inserted, empty_set, with_numbers, without_set}
 use Rattle.tune_sets.specs.Calls.{SetsOutcome, create_set, create_unless, add_to, cut_from, drop_found}
 use Rattle.tune_sets.specs.declared.set_lists.TuneSet.{TuneSet}
-use Rattle.tune_store.specs.State.{State, RisesFrom, tune_at}
+use Rattle.tune_store.specs.State.{State, NumbersRiseFrom, tune_at}
 use Rattle.tune_store.specs.TuneSteps.{Outcome, numbered, moved}
 use Rattle.tune_store.specs.Labels.{labels_of, numbers_of}
-use Rattle.tune_store.specs.Plans.{Decided, CanChange, CanChangeTo, changed_layout, changed_tunes, changed_sets, after}
-use Rattle.tune_store.specs.Inside.Plans.{Alters}
+use Rattle.tune_store.specs.Plans.{PlansOutcome, CanChange, CanChangeTo, changed_layout, changed_tunes, changed_sets, after}
+use Rattle.tune_store.specs.Inside.Plans.{AltersLabels}
 use Rattle.tune_store.specs.declared.layout.Layout.{Layout}
 use Rattle.tune_store.specs.declared.layout.Layout.TheVariants.{One, Two}
 use Rattle.tune_store.specs.declared.tune.Tune.{Tune}
@@ -63,7 +63,7 @@ abbrev weight : List TuneSet → ℕ
 weight [] = 0
 weight (set ∷ sets) = 1 + length set.numbers + weight sets
 
-weight-inserted : (new : TuneSet) (sets : List TuneSet) → weight (inserted new sets) ≡ 1 + length new.numbers + weight sets
+weight-inserted : (new : TuneSet) (sets : List TuneSet) → weight (set_inserted new sets) ≡ 1 + length new.numbers + weight sets
 weight-inserted new [] = refl
 weight-inserted new (set ∷ sets) = elim (cases_Bool (is_before new.name set.name)) [
   | inl before ↦ rw before refl
@@ -82,7 +82,7 @@ weight-with_numbers name numbers (first ∷ sets) set found = elim (cases_Bool (
   | inr other ↦ let later = rw other at found in let less = weight-with_numbers name numbers sets set later in rw other (omega arith)
 ]
 
-weight-without : (name : List ℕ) (sets : List TuneSet) (set : TuneSet) → set_at name sets ≡ Some set → weight (without name sets) < weight sets
+weight-without : (name : List ℕ) (sets : List TuneSet) (set : TuneSet) → set_at name sets ≡ Some set → weight (without_set name sets) < weight sets
 weight-without name [] set found = cc
 weight-without name (first ∷ sets) set found = elim (cases_Bool (bytes_eq first.name name)) [
   | inl same ↦ rw same (omega arith)
@@ -144,7 +144,8 @@ drop_alters name sets (Some set) there ok same = absurd (omega (arith, ap weight
 
 -- TUNES
 -- a number that a label has is that of a tune, and one that none has of none
-found_of_label : (number : ℕ) (tunes : List Tune) (labels : List Label) → RisesFrom 0 tunes → labels_of tunes ≡ labels → Contains (numbers_of labels) number
+found_of_label : (number : ℕ) (tunes : List Tune) (labels : List Label) → NumbersRiseFrom 0 tunes → labels_of tunes ≡ labels
+    → Contains (numbers_of labels) number
     → (tune : Tune) × (tune_at number tunes ≡ Some tune)
 found_of_label number tunes labels rises same has =
     let many = length-map labels (λ (label : Label). label.number) in
@@ -175,7 +176,8 @@ put_alters place tune tunes labels same l less stays =
     let both = ap (λ (ts : List Tune). (get_or ts place no_tune).revision) stays in
     omega arith
 
-move_alters : (number to : ℕ) (tunes : List Tune) (labels : List Label) → RisesFrom 0 tunes → labels_of tunes ≡ labels → Contains (numbers_of labels) number
+move_alters : (number to : ℕ) (tunes : List Tune) (labels : List Label) → NumbersRiseFrom 0 tunes → labels_of tunes ≡ labels
+    → Contains (numbers_of labels) number
     → (Contains (numbers_of labels) to → ⊥) → moved number to tunes ≡ tunes → ⊥
 move_alters number to tunes labels rises same has none stays =
     let it = found_of_label number tunes labels rises same has in
@@ -188,7 +190,7 @@ move_alters number to tunes labels rises same has none stays =
 -- the layout, the labels and the sets of a state
 pub record AreOf (layout : Layout) (labels : List Label) (sets : List TuneSet) (state : State) : Type 0 where
   pub laid : layout ≡ state.layout
-  pub rises : RisesFrom 0 state.tunes
+  pub rises : NumbersRiseFrom 0 state.tunes
   pub labelled : labels_of state.tunes ≡ labels
   pub listed : sets ≡ state.sets
 
@@ -196,7 +198,7 @@ two_is_not_one : Two ≡ One → ⊥
 two_is_not_one same = cc
 
 changes : (change : Change) (state : State) (layout : Layout) (labels : List Label) (sets : List TuneSet) → AreOf layout labels sets state
-    → CanChange change layout labels sets → Alters (Some change) labels → changed_tunes change state.tunes ≡ state.tunes
+    → CanChange change layout labels sets → AltersLabels (Some change) labels → changed_tunes change state.tunes ≡ state.tunes
     → changed_sets change state.sets ≡ state.sets → changed_layout change state.layout ≡ state.layout → ⊥
 changes (Add first texts) state layout labels sets are can alters tunes_stay sets_stay layout_stays =
     omega (arith, ap length tunes_stay, length-append state.tunes (numbered first texts.items), length-numbered first texts.items)
@@ -219,7 +221,7 @@ changes Upgrade state layout labels sets are can alters tunes_stay sets_stay lay
 
 -- so a change that leaves the state as it is was none
 none_or_changes : (change : Option Change) (state : State) (layout : Layout) (labels : List Label) (sets : List TuneSet) → AreOf layout labels sets state
-    → CanChangeTo change layout labels sets → Alters change labels → after change state ≡ state → change ≡ None
+    → CanChangeTo change layout labels sets → AltersLabels change labels → after change state ≡ state → change ≡ None
 none_or_changes None state layout labels sets are can alters stays = refl
 none_or_changes (Some change) state layout labels sets are can alters stays =
     absurd (changes change state layout labels sets are can alters (ap (λ (s : State). s.tunes) stays) (ap (λ (s : State). s.sets) stays)
@@ -227,8 +229,8 @@ none_or_changes (Some change) state layout labels sets are can alters stays =
 
 -- and so of a plan for an outcome
 pub no_change : (result : Result Plan Refusal) (state : State) (outcome : Outcome) (layout : Layout) (labels : List Label) (sets : List TuneSet)
-    → AreOf layout labels sets state → Decided state result outcome → IfOk result (λ plan. CanChangeTo plan.change layout labels sets)
-    → IfOk result (λ plan. Alters plan.change labels) → outcome.0 ≡ state → IfOk result (λ plan. plan.change ≡ None)
+    → AreOf layout labels sets state → PlansOutcome state result outcome → IfOk result (λ plan. CanChangeTo plan.change layout labels sets)
+    → IfOk result (λ plan. AltersLabels plan.change labels) → outcome.0 ≡ state → IfOk result (λ plan. plan.change ≡ None)
 no_change (Err refusal) state outcome layout labels sets are decided can alters stays = tt
 no_change (Ok plan) state outcome layout labels sets are decided can alters stays =
     none_or_changes plan.change state layout labels sets are can alters (sym (ap (λ (o : Outcome). o.0) decided) ∙ stays)

@@ -2,8 +2,8 @@
 use Rattle.std.proofs.Common.{◌≡◌, ℕ, zero, suc, ◌+◌, ◌<◌, ◌≤◌, List, [], ◌∷◌, length, get_or, Some, refl, ap, sym, ◌∙◌, subst, arith, inl, inr}
 use Rattle.std.specs.List.{AllWithin, insert, remove}
 use Rattle.std.proofs.lemmas.Bool.{cases_eq, cases_lt, lt-ltb, le-ltb}
-use Rattle.tune_store.specs.State.{RisesFrom, tune_at}
-use Rattle.tune_store.specs.TuneSteps.{without, inserted, moved_if, moved}
+use Rattle.tune_store.specs.State.{NumbersRiseFrom, tune_at}
+use Rattle.tune_store.specs.TuneSteps.{without_tune, tune_inserted, moved_if, moved}
 use Rattle.tune_store.specs.Inside.Lists.{IsPlaceAfter, IsPlaceFrom}
 use Rattle.tune_store.specs.declared.tune.Tune.{Tune}
 use Rattle.tune_store.proofs.PlaceLemmas.{ordered, above, tune_at-place, without-place}
@@ -11,7 +11,7 @@ use Rattle.tune_store.proofs.StateLemmas.{rises-without}
 
 -- THE PLACE
 -- numbers rise strictly with the place
-ordered_strictly : (low : ℕ) (tunes : List Tune) (i j : ℕ) (d : Tune) → RisesFrom low tunes → i < j → j < length tunes
+ordered_strictly : (low : ℕ) (tunes : List Tune) (i j : ℕ) (d : Tune) → NumbersRiseFrom low tunes → i < j → j < length tunes
     → (get_or tunes i d).number < (get_or tunes j d).number
 ordered_strictly low [] i j d rises h l = absurd (omega arith)
 ordered_strictly low (tune ∷ tunes) zero zero d rises h l = absurd (omega arith)
@@ -20,7 +20,7 @@ ordered_strictly low (tune ∷ tunes) (suc i) zero d rises h l = absurd (omega a
 ordered_strictly low (tune ∷ tunes) (suc i) (suc j) d rises h l = ordered_strictly tune.number tunes i j d rises.1 (omega arith) (omega arith)
 
 -- behind the tune of a number
-pub place_behind : (number : ℕ) (tunes : List Tune) (place : ℕ) → RisesFrom 0 tunes → place < length tunes
+pub place_behind : (number : ℕ) (tunes : List Tune) (place : ℕ) → NumbersRiseFrom 0 tunes → place < length tunes
     → ((e : Tune) → (get_or tunes place e).number ≡ number) → IsPlaceAfter number tunes (place + 1)
 place_behind number tunes place rises l named = record {
   within = omega arith;
@@ -29,7 +29,7 @@ place_behind number tunes place rises l named = record {
 }
 
 -- the first tune whose number is not below another one has a greater number
-module _ (number : ℕ) (tunes : List Tune) (place : ℕ) (rises : RisesFrom 0 tunes) (is : IsPlaceFrom number tunes place)
+module _ (number : ℕ) (tunes : List Tune) (place : ℕ) (rises : NumbersRiseFrom 0 tunes) (is : IsPlaceFrom number tunes place)
     (other : place < length tunes → (d : Tune) → (get_or tunes place d).number ≡ number → ⊥) where
   -- and so have those behind it
   greater : (k : ℕ) (d : Tune) → place ≤ k → k < length tunes → number < (get_or tunes k d).number
@@ -59,7 +59,7 @@ module _ (number : ℕ) (tunes : List Tune) (place : ℕ) (rises : RisesFrom 0 t
 -- THE MOVE
 -- the tune is put in there
 inserted-place : (new : Tune) (tunes : List Tune) (n : ℕ) → n ≤ length tunes → AllWithin (λ tune. tune.number ≤ new.number) tunes 0 n
-    → AllWithin (λ tune. new.number < tune.number) tunes n (length tunes) → inserted new tunes ≡ insert tunes n new
+    → AllWithin (λ tune. new.number < tune.number) tunes n (length tunes) → tune_inserted new tunes ≡ insert tunes n new
 inserted-place new [] zero l before behind = refl
 inserted-place new [] (suc n) l before behind = absurd (omega arith)
 inserted-place new (tune ∷ tunes) zero l before behind = rw (lt-ltb new.number tune.number (behind 0 tune (omega arith) (omega arith))) refl
@@ -69,19 +69,20 @@ inserted-place new (tune ∷ tunes) (suc n) l before behind =
     (λ k d from to. behind (suc k) d (omega arith) (omega arith))))
 
 -- a tune that is taken out at its place leaves numbers that rise
-pub rises-taken : (number : ℕ) (tunes : List Tune) (place : ℕ) (d : Tune) → RisesFrom 0 tunes → place < length tunes → (get_or tunes place d).number ≡ number
-    → RisesFrom 0 (remove tunes place)
+pub rises-taken : (number : ℕ) (tunes : List Tune) (place : ℕ) (d : Tune) → NumbersRiseFrom 0 tunes → place < length tunes → (get_or tunes place d).number
+    ≡ number
+    → NumbersRiseFrom 0 (remove tunes place)
 rises-taken number tunes place d rises l named =
-    let P : List Tune → Type 0 = λ ts. RisesFrom 0 ts in
+    let P : List Tune → Type 0 = λ ts. NumbersRiseFrom 0 ts in
     subst P (without-place 0 number tunes place d rises l named) (rises-without number 0 tunes rises)
 
 -- taken out at its place, and put in where its new number belongs, the tune is moved
-pub moves_by : (number to : ℕ) (tunes : List Tune) (place at : ℕ) (tune : Tune) → RisesFrom 0 tunes → place < length tunes
+pub moves_by : (number to : ℕ) (tunes : List Tune) (place at : ℕ) (tune : Tune) → NumbersRiseFrom 0 tunes → place < length tunes
     → ((e : Tune) → (get_or tunes place e).number ≡ number) → tune ≡ get_or tunes place tune → IsPlaceAfter to (remove tunes place) at
     → moved number to tunes ≡ insert (remove tunes place) at record { number = to; revision = tune.revision; text = tune.text }
 moves_by number to tunes place at tune rises l named is after =
     let new : Tune = record { number = to; revision = tune.revision; text = tune.text } in
     let its : (get_or tunes place tune).number ≡ tune.number = ap (λ (t : Tune). t.number) (sym is) in
     let has : tune_at number tunes ≡ Some tune = tune_at-place 0 number tunes place tune rises l (named tune) ∙ ap (λ t. Some t) (sym is) in
-    let rest : without tune.number tunes ≡ remove tunes place = without-place 0 tune.number tunes place tune rises l its in
-    ap (moved_if to tunes) has ∙ ap (inserted new) rest ∙ inserted-place new (remove tunes place) at after.within after.before after.behind
+    let rest : without_tune tune.number tunes ≡ remove tunes place = without-place 0 tune.number tunes place tune rises l its in
+    ap (moved_if to tunes) has ∙ ap (tune_inserted new) rest ∙ inserted-place new (remove tunes place) at after.within after.before after.behind

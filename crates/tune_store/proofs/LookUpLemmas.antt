@@ -4,7 +4,7 @@ use Rattle.std.proofs.Common.{is_some, ◌≤◌, Ok, Err}
 use Rattle.std.specs.List.{Contains}
 use Rattle.std.proofs.lemmas.Bool.{eq-eqb, ne_eqb, lt-ltb, le-leb}
 use Rattle.std.proofs.lemmas.List.{get_or-map, length-map}
-use Rattle.tune_store.specs.State.{State, RisesFrom, tune_at}
+use Rattle.tune_store.specs.State.{State, NumbersRiseFrom, tune_at}
 use Rattle.tune_store.specs.Limits.{greatest_number}
 use Rattle.tune_store.specs.TuneSteps.{is_number, renumber, renumber_found, renumber_unless}
 use Rattle.tune_store.specs.Plans.{changed}
@@ -24,7 +24,7 @@ pub record IsLookUp (number : ℕ) (labels : List Label) (answer : Option ℕ) :
 
 -- the tunes of a state are those of the labels, by rising number
 pub record AreLabelled (tunes : List Tune) (labels : List Label) : Type 0 where
-  pub rises : RisesFrom 0 tunes
+  pub rises : NumbersRiseFrom 0 tunes
   pub same : labels_of tunes ≡ labels
 
 -- where none was found no tune has the number

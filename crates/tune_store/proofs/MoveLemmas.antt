@@ -5,8 +5,8 @@ use Rattle.std.specs.Prelude.{◌≢◌}
 use Rattle.std.specs.List.{AllByRecursion}
 use Rattle.std.proofs.lemmas.Bool.{cases_Bool, eqb-true, eqb-false, eq-eqb, ne_eqb, ltb-true, ltb-false}
 use Rattle.tune_store.specs.Limits.{greatest_number}
-use Rattle.tune_store.specs.State.{RisesFrom, greatest, tune_at, IsTune, IsTunes}
-use Rattle.tune_store.specs.TuneSteps.{without, inserted, moved_tune, moved_if, moved}
+use Rattle.tune_store.specs.State.{NumbersRiseFrom, greatest, tune_at, IsTune, IsTunes}
+use Rattle.tune_store.specs.TuneSteps.{without_tune, tune_inserted, moved_tune, moved_if, moved}
 use Rattle.tune_store.specs.declared.tune.Tune.{Tune}
 use Rattle.tune_store.proofs.PlaceLemmas.{tune_at-number, tune_at-without_other}
 use Rattle.tune_store.proofs.StateLemmas.{rises-without, greatest-without, each-without}
@@ -32,8 +32,8 @@ number_within number (first ∷ tunes) tune found = elim (cases_Bool (eqb first.
 
 -- A TUNE MORE
 -- the numbers still rise
-rises-inserted : (new : Tune) (low : ℕ) (tunes : List Tune) → low < new.number → tune_at new.number tunes ≡ None → RisesFrom low tunes
-    → RisesFrom low (inserted new tunes)
+rises-inserted : (new : Tune) (low : ℕ) (tunes : List Tune) → low < new.number → tune_at new.number tunes ≡ None → NumbersRiseFrom low tunes
+    → NumbersRiseFrom low (tune_inserted new tunes)
 rises-inserted new low [] less free rises = (less, tt)
 rises-inserted new low (tune ∷ tunes) less free rises = elim (cases_Bool (ltb new.number tune.number)) [
   | inl before ↦ rw before (less, (ltb-true new.number tune.number before, rises.1))
@@ -48,7 +48,7 @@ rises-inserted new low (tune ∷ tunes) less free rises = elim (cases_Bool (ltb 
 ]
 
 -- the greatest number is the greater of two
-greatest-inserted : (new : Tune) (tunes : List Tune) → greatest (inserted new tunes) ≡ max new.number (greatest tunes)
+greatest-inserted : (new : Tune) (tunes : List Tune) → greatest (tune_inserted new tunes) ≡ max new.number (greatest tunes)
 greatest-inserted new [] = refl
 greatest-inserted new (tune ∷ tunes) = elim (cases_Bool (ltb new.number tune.number)) [
   | inl before ↦ rw before refl
@@ -56,7 +56,7 @@ greatest-inserted new (tune ∷ tunes) = elim (cases_Bool (ltb new.number tune.n
 ]
 
 -- there is a tune more
-length-inserted : (new : Tune) (tunes : List Tune) → length (inserted new tunes) ≡ length tunes + 1
+length-inserted : (new : Tune) (tunes : List Tune) → length (tune_inserted new tunes) ≡ length tunes + 1
 length-inserted new [] = refl
 length-inserted new (tune ∷ tunes) = elim (cases_Bool (ltb new.number tune.number)) [
   | inl before ↦ rw before (omega arith)
@@ -65,7 +65,7 @@ length-inserted new (tune ∷ tunes) = elim (cases_Bool (ltb new.number tune.num
 
 -- and good tunes all
 each-inserted : {layout : Layout} → (new : Tune) (tunes : List Tune) → IsTune layout new → AllByRecursion (IsTune layout) tunes
-    → AllByRecursion (IsTune layout) (inserted new tunes)
+    → AllByRecursion (IsTune layout) (tune_inserted new tunes)
 each-inserted new [] is each = (is, tt)
 each-inserted new (tune ∷ tunes) is each = elim (cases_Bool (ltb new.number tune.number)) [
   | inl before ↦ rw before (is, each)
@@ -73,7 +73,7 @@ each-inserted new (tune ∷ tunes) is each = elim (cases_Bool (ltb new.number tu
 ]
 
 -- the tune that came is the tune of its number
-tune_at-inserted_same : (new : Tune) (tunes : List Tune) → tune_at new.number tunes ≡ None → tune_at new.number (inserted new tunes) ≡ Some new
+tune_at-inserted_same : (new : Tune) (tunes : List Tune) → tune_at new.number tunes ≡ None → tune_at new.number (tune_inserted new tunes) ≡ Some new
 tune_at-inserted_same new [] free = let own = eq-eqb new.number new.number refl in rw own refl
 tune_at-inserted_same new (tune ∷ tunes) free = elim (cases_Bool (ltb new.number tune.number)) [
   | inl before ↦ let own = eq-eqb new.number new.number refl in rw (before, own) refl
@@ -84,7 +84,7 @@ tune_at-inserted_same new (tune ∷ tunes) free = elim (cases_Bool (ltb new.numb
 ]
 
 -- and for any other number the tune is as it was
-tune_at-inserted_other : (number : ℕ) (new : Tune) (tunes : List Tune) → new.number ≢ number → tune_at number (inserted new tunes) ≡ tune_at number tunes
+tune_at-inserted_other : (number : ℕ) (new : Tune) (tunes : List Tune) → new.number ≢ number → tune_at number (tune_inserted new tunes) ≡ tune_at number tunes
 tune_at-inserted_other number new [] apart = rw (ne_eqb new.number number apart) refl
 tune_at-inserted_other number new (tune ∷ tunes) apart = elim (cases_Bool (ltb new.number tune.number)) [
   | inl before ↦ rw (before, ne_eqb new.number number apart) refl
@@ -93,7 +93,8 @@ tune_at-inserted_other number new (tune ∷ tunes) apart = elim (cases_Bool (ltb
 
 -- A TUNE LESS
 -- there is one less, where it was there
-pub length-without_one : (number : ℕ) (tunes : List Tune) (tune : Tune) → tune_at number tunes ≡ Some tune → length (without number tunes) + 1 ≡ length tunes
+pub length-without_one : (number : ℕ) (tunes : List Tune) (tune : Tune) → tune_at number tunes ≡ Some tune → length (without_tune number tunes) + 1
+    ≡ length tunes
 length-without_one number [] tune found = cc
 length-without_one number (first ∷ tunes) tune found = elim (cases_Bool (eqb first.number number)) [
   | inl same ↦ rw same (omega arith)
@@ -111,7 +112,7 @@ tune_at-is {layout = layout} number (first ∷ tunes) tune each found = elim (ca
 
 -- A TUNE UNDER ANOTHER NUMBER
 -- the tunes without the one of a number have no other number that was free
-still_free : (number to : ℕ) (tunes : List Tune) → number ≢ to → tune_at to tunes ≡ None → tune_at to (without number tunes) ≡ None
+still_free : (number to : ℕ) (tunes : List Tune) → number ≢ to → tune_at to tunes ≡ None → tune_at to (without_tune number tunes) ≡ None
 still_free number to tunes apart free = tune_at-without_other to number tunes apart ∙ free
 
 -- the tune that was found, under a number that is free, keeps the limits
@@ -119,7 +120,7 @@ moved_tune_keeps : {layout : Layout} → (tune : Tune) (to : ℕ) (tunes : List 
     → tune_at to tunes ≡ None
     → 0 < to → to ≤ greatest_number → IsTunes layout (moved_tune tune to tunes)
 moved_tune_keeps {layout = layout} tune to tunes is found free above within =
-    let rest : List Tune = without tune.number tunes in
+    let rest : List Tune = without_tune tune.number tunes in
     let gone = still_free tune.number to tunes (free_apart tune.number to tunes tune found free) free in
     let it = tune_at-is tune.number tunes tune is.each found in
     let its : IsTune layout (under to tune) = record { revised = it.revised; revision = it.revision; text = it.text; fits = it.fits } in
@@ -147,7 +148,7 @@ pub tune_at-moved_to : (number to : ℕ) (tunes : List Tune) (tune : Tune) → t
 tune_at-moved_to number to tunes tune found free =
     let its = tune_at-number number tunes tune found in
     let apart : tune.number ≢ to = λ same. free_apart number to tunes tune found free (sym its ∙ same) in
-    rw found (tune_at-inserted_same (under to tune) (without tune.number tunes) (still_free tune.number to tunes apart free))
+    rw found (tune_at-inserted_same (under to tune) (without_tune tune.number tunes) (still_free tune.number to tunes apart free))
 
 -- and the tune of a third number is as it was
 pub tune_at-moved_other : (number to other : ℕ) (tunes : List Tune) → number ≢ other → to ≢ other → tune_at other (moved number to tunes) ≡ tune_at other tunes
@@ -157,4 +158,4 @@ tune_at-moved_other number to other tunes apart apart_to = by_found (tune_at num
     by_found None e = refl
     by_found (Some tune) e =
         let ne : tune.number ≢ other = λ same. apart (sym (tune_at-number number tunes tune e) ∙ same) in
-        tune_at-inserted_other other (under to tune) (without tune.number tunes) apart_to ∙ tune_at-without_other other tune.number tunes ne
+        tune_at-inserted_other other (under to tune) (without_tune tune.number tunes) apart_to ∙ tune_at-without_other other tune.number tunes ne

@@ -8,11 +8,11 @@ use Rattle.std.proofs.lemmas.Bool.{cases_Bool, eqb-true, eqb-false}
 use Rattle.tune_sets.specs.Limits.{most_places, most_sets}
 use Rattle.tune_sets.specs.Names.{is_good_name, is_before}
 use Rattle.tune_sets.specs.Numbers.{is_among, has_place, renumbered, renumbered_all}
-use Rattle.tune_sets.specs.Sets.{set_at, holder, inserted, empty_set, with_numbers, renumbered_sets, without as sets_without}
+use Rattle.tune_sets.specs.Sets.{set_at, holder, set_inserted, empty_set, with_numbers, renumbered_sets, without_set as sets_without}
 use Rattle.tune_sets.specs.Calls.{create_unless, create_set, add_to, add_number, cut_from, cut_place, drop_found, drop_set}
 use Rattle.tune_sets.specs.declared.set_lists.TuneSet.{TuneSet}
 use Rattle.tune_store.specs.State.{tune_at, AreHeld, NameTunes}
-use Rattle.tune_store.specs.TuneSteps.{with_tune, without, moved}
+use Rattle.tune_store.specs.TuneSteps.{with_tune, without_tune, moved}
 use Rattle.tune_store.specs.declared.tune.Tune.{Tune}
 use Rattle.tune_store.proofs.PlaceLemmas.{tune_at-append, tune_at-with_tune_same, tune_at-with_tune_other, tune_at-without_other}
 use Rattle.tune_store.proofs.MoveLemmas.{tune_at-moved_to, tune_at-moved_other}
@@ -51,7 +51,7 @@ named_after old new (set ∷ sets) keeps named = (held_after old new set.numbers
 
 -- A TUNE LESS
 held_without : (number : ℕ) (tunes : List Tune) (numbers : List ℕ) → is_among number numbers ≡ false → AreHeld tunes numbers
-    → AreHeld (without number tunes) numbers
+    → AreHeld (without_tune number tunes) numbers
 held_without number tunes [] nay held = tt
 held_without number tunes (n ∷ numbers) nay held = elim (cases_Bool (eqb n number)) [
   | inl same ↦ let is = rw same at nay in cc
@@ -63,7 +63,7 @@ held_without number tunes (n ∷ numbers) nay held = elim (cases_Bool (eqb n num
 
 -- where no set holds its number, the places of sets name tunes without it
 pub named_without : (number : ℕ) (tunes : List Tune) (sets : List TuneSet) → holder number sets ≡ None → NameTunes tunes sets
-    → NameTunes (without number tunes) sets
+    → NameTunes (without_tune number tunes) sets
 named_without number tunes [] none named = tt
 named_without number tunes (set ∷ sets) none named = elim (cases_Bool (is_among number set.numbers)) [
   | inl among ↦ let is = rw among at none in cc
@@ -96,7 +96,7 @@ named_moved number to tunes tune (set ∷ sets) found free named =
 
 -- SETS CHANGED
 -- a set without a place names tunes
-named_inserted : (tunes : List Tune) (name : List ℕ) (sets : List TuneSet) → NameTunes tunes sets → NameTunes tunes (inserted (empty_set name) sets)
+named_inserted : (tunes : List Tune) (name : List ℕ) (sets : List TuneSet) → NameTunes tunes sets → NameTunes tunes (set_inserted (empty_set name) sets)
 named_inserted tunes name [] named = (tt, tt)
 named_inserted tunes name (set ∷ sets) named = elim (cases_Bool (is_before name set.name)) [
   | inl before ↦ rw before (tt, named)

@@ -5,9 +5,9 @@ use Rattle.std.proofs.Math.ListN.{set}
 use Rattle.std.specs.List.{AllWithin}
 use Rattle.std.proofs.lemmas.List.{get_or_default}
 use Rattle.std.proofs.lemmas.Bool.{ne_eqb, eq-eqb, eqb-true, cases_Bool}
-use Rattle.tune_store.specs.State.{RisesFrom}
+use Rattle.tune_store.specs.State.{NumbersRiseFrom}
 use Rattle.tune_store.specs.State.{tune_at}
-use Rattle.tune_store.specs.TuneSteps.{with_tune, without}
+use Rattle.tune_store.specs.TuneSteps.{with_tune, without_tune}
 use Rattle.tune_store.specs.declared.tune.Tune.{Tune}
 use Rattle.std.specs.Prelude.{IsSome}
 
@@ -50,7 +50,7 @@ tune_at-append number (first ∷ tunes) more h = elim (cases_Bool (eqb first.num
 ]
 
 -- a tune less, the tunes of other numbers are as they were
-pub tune_at-without_other : (number other : ℕ) (tunes : List Tune) → (other ≡ number → ⊥) → tune_at number (without other tunes) ≡ tune_at number tunes
+pub tune_at-without_other : (number other : ℕ) (tunes : List Tune) → (other ≡ number → ⊥) → tune_at number (without_tune other tunes) ≡ tune_at number tunes
 tune_at-without_other number other [] ne = refl
 tune_at-without_other number other (first ∷ tunes) ne = elim (cases_Bool (eqb first.number other)) [
   | inl same ↦ let apart = ne_eqb first.number number (λ h. ne (sym (eqb-true first.number other same) ∙ h)) in rw (same, apart) refl
@@ -58,7 +58,7 @@ tune_at-without_other number other (first ∷ tunes) ne = elim (cases_Bool (eqb 
 ]
 
 -- where numbers rise from this one, no tune has it
-pub tune_at-below : (low number : ℕ) (tunes : List Tune) → number ≤ low → RisesFrom low tunes → tune_at number tunes ≡ None
+pub tune_at-below : (low number : ℕ) (tunes : List Tune) → number ≤ low → NumbersRiseFrom low tunes → tune_at number tunes ≡ None
 tune_at-below low number [] le rises = refl
 tune_at-below low number (first ∷ tunes) le rises =
     let above = rises.0 in
@@ -66,7 +66,7 @@ tune_at-below low number (first ∷ tunes) le rises =
     rw apart (tune_at-below first.number number tunes (omega arith) rises.1)
 
 -- a tune that is taken out is not there
-pub tune_at-without_same : (low number : ℕ) (tunes : List Tune) → RisesFrom low tunes → tune_at number (without number tunes) ≡ None
+pub tune_at-without_same : (low number : ℕ) (tunes : List Tune) → NumbersRiseFrom low tunes → tune_at number (without_tune number tunes) ≡ None
 tune_at-without_same low number [] rises = refl
 tune_at-without_same low number (first ∷ tunes) rises = elim (cases_Bool (eqb first.number number)) [
   | inl same ↦ let e = eqb-true first.number number same in rw same (tune_at-below first.number number tunes (omega arith) rises.1)
@@ -75,13 +75,13 @@ tune_at-without_same low number (first ∷ tunes) rises = elim (cases_Bool (eqb 
 
 -- LOOK-UPS
 -- each number is above what the list rises from
-pub above : (low : ℕ) (tunes : List Tune) (n : ℕ) (d : Tune) → RisesFrom low tunes → n < length tunes → low < (get_or tunes n d).number
+pub above : (low : ℕ) (tunes : List Tune) (n : ℕ) (d : Tune) → NumbersRiseFrom low tunes → n < length tunes → low < (get_or tunes n d).number
 above low [] n d rises l = absurd (omega arith)
 above low (tune ∷ tunes) zero d rises l = rises.0
 above low (tune ∷ tunes) (suc n) d rises l = let later = above tune.number tunes n d rises.1 (omega arith) in let first = rises.0 in omega arith
 
 -- numbers rise with the place
-pub ordered : (low : ℕ) (tunes : List Tune) (i j : ℕ) (d : Tune) → RisesFrom low tunes → i ≤ j → j < length tunes
+pub ordered : (low : ℕ) (tunes : List Tune) (i j : ℕ) (d : Tune) → NumbersRiseFrom low tunes → i ≤ j → j < length tunes
     → (get_or tunes i d).number ≤ (get_or tunes j d).number
 ordered low [] i j d rises h l = absurd (omega arith)
 ordered low (tune ∷ tunes) zero zero d rises h l = omega arith
@@ -90,7 +90,7 @@ ordered low (tune ∷ tunes) (suc i) zero d rises h l = absurd (omega arith)
 ordered low (tune ∷ tunes) (suc i) (suc j) d rises h l = ordered tune.number tunes i j d rises.1 (omega arith) (omega arith)
 
 -- the tune at a place is the tune of its number
-pub tune_at-place : (low number : ℕ) (tunes : List Tune) (n : ℕ) (d : Tune) → RisesFrom low tunes → n < length tunes → (get_or tunes n d).number ≡ number
+pub tune_at-place : (low number : ℕ) (tunes : List Tune) (n : ℕ) (d : Tune) → NumbersRiseFrom low tunes → n < length tunes → (get_or tunes n d).number ≡ number
     → tune_at number tunes ≡ Some (get_or tunes n d)
 tune_at-place low number [] n d rises l e = absurd (omega arith)
 tune_at-place low number (tune ∷ tunes) zero d rises l e = let same = eq-eqb tune.number number e in rw same refl
@@ -100,7 +100,7 @@ tune_at-place low number (tune ∷ tunes) (suc n) d rises l e =
     rw other (tune_at-place tune.number number tunes n d rises.1 (omega arith) e)
 
 -- a tune goes to its place
-pub with_tune-place : (low : ℕ) (new : Tune) (tunes : List Tune) (n : ℕ) (d : Tune) → RisesFrom low tunes → n < length tunes
+pub with_tune-place : (low : ℕ) (new : Tune) (tunes : List Tune) (n : ℕ) (d : Tune) → NumbersRiseFrom low tunes → n < length tunes
     → (get_or tunes n d).number ≡ new.number → with_tune new tunes ≡ set tunes n new
 with_tune-place low new [] n d rises l e = absurd (omega arith)
 with_tune-place low new (tune ∷ tunes) zero d rises l e = let same = eq-eqb tune.number new.number e in rw same refl
@@ -110,8 +110,8 @@ with_tune-place low new (tune ∷ tunes) (suc n) d rises l e =
     rw other (ap (λ ts. tune ∷ ts) (with_tune-place tune.number new tunes n d rises.1 (omega arith) e))
 
 -- a tune is taken out at its place
-pub without-place : (low number : ℕ) (tunes : List Tune) (n : ℕ) (d : Tune) → RisesFrom low tunes → n < length tunes → (get_or tunes n d).number ≡ number
-    → without number tunes ≡ take n tunes ++ drop (suc n) tunes
+pub without-place : (low number : ℕ) (tunes : List Tune) (n : ℕ) (d : Tune) → NumbersRiseFrom low tunes → n < length tunes → (get_or tunes n d).number ≡ number
+    → without_tune number tunes ≡ take n tunes ++ drop (suc n) tunes
 without-place low number [] n d rises l e = absurd (omega arith)
 without-place low number (tune ∷ tunes) zero d rises l e = let same = eq-eqb tune.number number e in rw same refl
 without-place low number (tune ∷ tunes) (suc n) d rises l e =
@@ -129,13 +129,13 @@ tune_at-none number (tune ∷ tunes) h =
 
 -- BY HALVES
 -- up to a tune of a lesser number all are lesser, and from one that is not lesser on none is
-pub lesser : (number : ℕ) (tunes : List Tune) (place : ℕ) (tune : Tune) → RisesFrom 0 tunes → place < length tunes → tune ≡ get_or tunes place tune
+pub lesser : (number : ℕ) (tunes : List Tune) (place : ℕ) (tune : Tune) → NumbersRiseFrom 0 tunes → place < length tunes → tune ≡ get_or tunes place tune
     → tune.number < number → AllWithin (λ t. t.number < number) tunes 0 (place + 1)
 lesser number tunes place tune rises l is less = λ k d from below.
     (let le = ordered 0 tunes k place d rises (omega arith) l in
     let same : tune.number ≡ (get_or tunes place d).number = ap (λ (t : Tune). t.number) (is ∙ get_or_default tunes place tune d l) in omega arith)
 
-pub not_lesser : (number : ℕ) (tunes : List Tune) (place : ℕ) (tune : Tune) → RisesFrom 0 tunes → place < length tunes → tune ≡ get_or tunes place tune
+pub not_lesser : (number : ℕ) (tunes : List Tune) (place : ℕ) (tune : Tune) → NumbersRiseFrom 0 tunes → place < length tunes → tune ≡ get_or tunes place tune
     → number ≤ tune.number → AllWithin (λ t. number ≤ t.number) tunes place (length tunes)
 not_lesser number tunes place tune rises l is le = λ k d from to.
     (let later = ordered 0 tunes place k d rises from to in

@@ -6,7 +6,7 @@ use Rattle.std.specs.List.{remove, AllByRecursion}
 use Rattle.std.proofs.lemmas.Bool.{eq-eqb, ne_eqb, lt-ltb, le-ltb}
 use Rattle.std.proofs.lemmas.List.{get_or-map, length-map}
 use Rattle.tune_store.specs.Limits.{most_tunes, greatest_number, greatest_revision}
-use Rattle.tune_store.specs.State.{RisesFrom, greatest}
+use Rattle.tune_store.specs.State.{NumbersRiseFrom, greatest}
 use Rattle.tune_store.specs.TuneSteps.{numbered, import_texts, replace_tune, delete_tune}
 use Rattle.tune_store.specs.State.{tune_at}
 use Rattle.tune_books.specs.WrittenBooks.{written_tune, written_tunes}
@@ -44,7 +44,7 @@ label_at tunes labels n d e same l =
 
 -- a place where the label has a number
 pub record IsPlaceOf (number : ℕ) (tunes : List Tune) (labels : List Label) (place : ℕ) : Type 0 where
-  pub rises : RisesFrom 0 tunes
+  pub rises : NumbersRiseFrom 0 tunes
   pub same : labels_of tunes ≡ labels
   pub within : place < length labels
   pub found : (e : Label) → (get_or labels place e).number ≡ number
@@ -79,7 +79,7 @@ place_none number tunes labels same none =
     none n (label_of d) within (ap (λ (r : Label). r.number) (label_at tunes labels n d (label_of d) same within) ∙ e))
 
 -- the last label has the greatest number
-pub last_label : (tunes : List Tune) (labels : List Label) (label : Label) (len : ℕ) → RisesFrom 0 tunes → labels_of tunes ≡ labels
+pub last_label : (tunes : List Tune) (labels : List Label) (label : Label) (len : ℕ) → NumbersRiseFrom 0 tunes → labels_of tunes ≡ labels
     → len ≡ length labels → 0 < len
     → ((e : Label) → label ≡ get_or labels (len - 1) e) → label.number ≡ greatest tunes
 last_label tunes labels label len rises same count some at =
@@ -218,7 +218,7 @@ number_of_label number tunes place l named e = ap (λ (r : Label). r.number) (sy
 
 -- LABELS THAT RISE
 -- the labels of tunes whose numbers rise
-pub labels_rise : (low : ℕ) (tunes : List Tune) → RisesFrom low tunes → LabelsRise low (labels_of tunes)
+pub labels_rise : (low : ℕ) (tunes : List Tune) → NumbersRiseFrom low tunes → LabelsRise low (labels_of tunes)
 labels_rise low [] rises = tt
 labels_rise low (tune ∷ tunes) rises = (rises.0, labels_rise tune.number tunes rises.1)
 

@@ -6,8 +6,9 @@ use Rattle.std.specs.Option.{option_map}
 use Rattle.std.proofs.lemmas.Bool.{eqb-true, eqb-false, cases_Bool, and_parts}
 use Rattle.abc_fields.specs.Books.{Texts, book_answer}
 use Rattle.tune_sets.specs.Sets.{holder}
-use Rattle.tune_store.specs.State.{State, IsState, RisesFrom, Standing, greatest, tune_at}
-use Rattle.tune_store.specs.TuneSteps.{Outcome, TunesOutcome, with_tune, without, revised, with_texts, import_book, replace_tune, replace_book, delete_tune}
+use Rattle.tune_store.specs.State.{State, IsState, NumbersRiseFrom, Standing, greatest, tune_at}
+use Rattle.tune_store.specs.TuneSteps.{Outcome, TunesOutcome, with_tune, without_tune, revised, with_texts, import_book, replace_tune, replace_book}
+use Rattle.tune_store.specs.TuneSteps.{delete_tune}
 use Rattle.tune_store.specs.TuneSteps.{moved, is_number, renumber, renumber_found, renumber_unless}
 use Rattle.tune_store.specs.SetSteps.{set_add_found}
 use Rattle.tune_store.specs.Step.{step}
@@ -137,7 +138,7 @@ delete_other_leaves tunes number other (Some name) (Some tune) apart = refl
 delete_other_leaves tunes number other None (Some tune) apart = ap revision (tune_at-without_other number other tunes apart)
 
 -- a deletion leaves it where the tune is there after it
-delete_leaves : (tunes : List Tune) (number other : ℕ) (held : Option (List ℕ)) (found : Option Tune) → RisesFrom 0 tunes
+delete_leaves : (tunes : List Tune) (number other : ℕ) (held : Option (List ℕ)) (found : Option Tune) → NumbersRiseFrom 0 tunes
     → IsSome (tune_at number (delete_tune tunes other held found).0)
     → LeavesRevision number tunes (delete_tune tunes other held found)
 delete_leaves tunes number other held None rises is_there = refl
@@ -145,7 +146,7 @@ delete_leaves tunes number other (Some name) (Some tune) rises is_there = refl
 delete_leaves tunes number other None (Some tune) rises is_there = elim (cases_Bool (eqb other number)) [
   | inl same ↦
       let e = eqb-true other number same in
-      let P : ℕ → Type 0 = λ n. tune_at number (without n tunes) ≡ None in
+      let P : ℕ → Type 0 = λ n. tune_at number (without_tune n tunes) ≡ None in
       let gone = subst P (sym e) (tune_at-without_same 0 number tunes rises) in
       let none = sym is_there ∙ ap is_some gone in
       cc

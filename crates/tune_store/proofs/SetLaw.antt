@@ -23,7 +23,7 @@ use Rattle.tune_store.specs.SetSteps.{set_add_found}
 use Rattle.tune_store.specs.Questions.{row_of, row_found, rows_at, with_text, texts_at, set_shown, set_exported}
 use Rattle.tune_store.specs.Step.{step}
 use Rattle.tune_store.specs.Revisions.{accepts, now_at}
-use Rattle.tune_store.specs.Places.{AreTunesOf, carried, OthersKeepPlaces}
+use Rattle.tune_store.specs.Places.{AreTunesOf, carried_places, OthersKeepPlaces}
 use Rattle.tune_store.specs.declared.tune.Tune.{Tune}
 use Rattle.tune_store.specs.declared.command.Command.{Command}
 use Rattle.tune_store.specs.declared.command.Command.TheVariants.{Delete, Renumber, SetNew, SetAdd, SetCut, SetDrop, ExportSet}
@@ -94,14 +94,14 @@ map_stays : (now : ℕ → ℕ) → ((n : ℕ) → now n ≡ n) → (numbers : L
 map_stays now stays [] = refl
 map_stays now stays (n ∷ numbers) = ap (λ m. m ∷ map now numbers) (stays n) ∙ ap (λ ns. n ∷ ns) (map_stays now stays numbers)
 
-carried_stays : (now : ℕ → ℕ) → ((n : ℕ) → now n ≡ n) → (found : Result (List ℕ) SetFault) → found ≡ carried now found
+carried_stays : (now : ℕ → ℕ) → ((n : ℕ) → now n ≡ n) → (found : Result (List ℕ) SetFault) → found ≡ carried_places now found
 carried_stays now stays (Ok numbers) = ap (λ ns. Ok ns) (sym (map_stays now stays numbers))
 carried_stays now stays (Err why) = refl
 
 -- an outcome of a Renumber carries the places of the set of a name along
 abbrev CarriesPlaces : ℕ → ℕ → List ℕ → State → Outcome → Type 0
 CarriesPlaces number to name old outcome =
-    places_of name outcome.0.sets ≡ carried (now_at (Renumber number to) (is_ok outcome.1)) (places_of name old.sets)
+    places_of name outcome.0.sets ≡ carried_places (now_at (Renumber number to) (is_ok outcome.1)) (places_of name old.sets)
 
 -- a tune's own number is no new one
 own_number : (number to n : ℕ) → number ≡ to → cond (eqb n number) to n ≡ n
@@ -111,7 +111,7 @@ own_number number to n same = elim (cases_Bool (eqb n number)) [
 ]
 
 renumbered_places : (number to : ℕ) (found : Option TuneSet)
-    → places_found (option_map (renumbered_set number to) found) ≡ carried (now_at (Renumber number to) true) (places_found found)
+    → places_found (option_map (renumbered_set number to) found) ≡ carried_places (now_at (Renumber number to) true) (places_found found)
 renumbered_places number to None = refl
 renumbered_places number to (Some set) = refl
 
@@ -183,7 +183,7 @@ names_apart name other differs same =
     cc
 
 -- what keeps a set keeps its places
-set_stays : (now : ℕ → ℕ) → ((n : ℕ) → now n ≡ n) → (found old : Option TuneSet) → found ≡ old → places_found found ≡ carried now (places_found old)
+set_stays : (now : ℕ → ℕ) → ((n : ℕ) → now n ≡ n) → (found old : Option TuneSet) → found ≡ old → places_found found ≡ carried_places now (places_found old)
 set_stays now stays found old same = ap places_found same ∙ carried_stays now stays (places_found old)
 
 -- any other command leaves the set of a name its places

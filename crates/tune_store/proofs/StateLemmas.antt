@@ -4,8 +4,8 @@ use Rattle.std.proofs.Common.{Option, Some, None, Ok, Err, refl, ap, sym, subst,
 use Rattle.std.specs.List.{AllByRecursion}
 use Rattle.std.proofs.lemmas.Bool.{eqb-true, ltb-true, cases_Bool}
 use Rattle.abc_fields.specs.Tunes.{IsTextWithin}
-use Rattle.tune_store.specs.State.{RisesFrom, greatest, IsTune, IsTunes}
-use Rattle.tune_store.specs.TuneSteps.{TunesOutcome, numbered, with_texts, with_tune, without, revised, replace_tune}
+use Rattle.tune_store.specs.State.{NumbersRiseFrom, greatest, IsTune, IsTunes}
+use Rattle.tune_store.specs.TuneSteps.{TunesOutcome, numbered, with_texts, with_tune, without_tune, revised, replace_tune}
 use Rattle.tune_store.specs.declared.tune.Tune.{Tune}
 use Rattle.tune_store.specs.Limits.{longest_text, most_tunes, greatest_number, greatest_revision}
 use Rattle.tune_store.specs.declared.command.Reply.TheVariants.{Replaced}
@@ -14,7 +14,8 @@ use Rattle.tune_store.specs.declared.layout.Layout.{Layout}
 
 -- RISING NUMBERS
 -- the last number is the greatest
-pub greatest_last : (low : ℕ) (tunes : List Tune) (n : ℕ) (d : Tune) → RisesFrom low tunes → n + 1 ≡ length tunes → greatest tunes ≡ (get_or tunes n d).number
+pub greatest_last : (low : ℕ) (tunes : List Tune) (n : ℕ) (d : Tune) → NumbersRiseFrom low tunes → n + 1 ≡ length tunes → greatest tunes
+    ≡ (get_or tunes n d).number
 greatest_last low [] n d rises l = absurd (omega arith)
 greatest_last low (tune ∷ []) zero d rises l = omega arith
 greatest_last low (tune ∷ []) (suc n) d rises l = absurd (omega arith)
@@ -30,11 +31,12 @@ greatest-append [] more = omega arith
 greatest-append (tune ∷ tunes) more = let e = greatest-append tunes more in omega arith
 
 -- one list of rising numbers after another
-rises-append : (low : ℕ) (tunes more : List Tune) → RisesFrom low tunes → RisesFrom (max low (greatest tunes)) more → RisesFrom low (tunes ++ more)
+rises-append : (low : ℕ) (tunes more : List Tune) → NumbersRiseFrom low tunes → NumbersRiseFrom (max low (greatest tunes)) more
+    → NumbersRiseFrom low (tunes ++ more)
 rises-append low [] more rises later =
-    let P : ℕ → Type 0 = λ n. RisesFrom n more in let same : max low 0 ≡ low = omega arith in subst P same later
+    let P : ℕ → Type 0 = λ n. NumbersRiseFrom n more in let same : max low 0 ≡ low = omega arith in subst P same later
 rises-append low (tune ∷ tunes) more rises later =
-    let P : ℕ → Type 0 = λ n. RisesFrom n more in
+    let P : ℕ → Type 0 = λ n. NumbersRiseFrom n more in
     let first = rises.0 in
     let same : max low (max tune.number (greatest tunes)) ≡ max tune.number (greatest tunes) = omega arith in
     (rises.0, rises-append tune.number tunes more rises.1 (subst P same later))
@@ -72,7 +74,7 @@ greatest-numbered number text [] = omega arith
 greatest-numbered number text (next ∷ texts) = let e = greatest-numbered (number + 1) next texts in omega arith
 
 -- new numbers rise
-rises-numbered : (low number : ℕ) (texts : List (List ℕ)) → low < number → RisesFrom low (numbered number texts)
+rises-numbered : (low number : ℕ) (texts : List (List ℕ)) → low < number → NumbersRiseFrom low (numbered number texts)
 rises-numbered low number [] l = tt
 rises-numbered low number (text ∷ texts) l = (l, rises-numbered number (number + 1) texts (omega arith))
 
@@ -91,7 +93,7 @@ pub state_after_import : {layout : Layout} → (tunes : List Tune) (texts : List
     → length tunes + length texts ≤ (most_tunes layout) → greatest tunes + length texts ≤ greatest_number
     → IsTunes layout (with_texts tunes texts)
 state_after_import tunes texts is within room numbers =
-    let P : ℕ → Type 0 = λ n. RisesFrom n (numbered (greatest tunes + 1) texts) in
+    let P : ℕ → Type 0 = λ n. NumbersRiseFrom n (numbered (greatest tunes + 1) texts) in
     let low : greatest tunes ≡ max 0 (greatest tunes) = omega arith in
     let top = new_numbers_top tunes texts numbers is.numbers in
     record {
@@ -111,12 +113,12 @@ state_after_import tunes texts is within room numbers =
 
 -- A TUNE IN THE PLACE OF ANOTHER
 -- the numbers still rise
-rises-with_tune : (new : Tune) (low : ℕ) (tunes : List Tune) → RisesFrom low tunes → RisesFrom low (with_tune new tunes)
+rises-with_tune : (new : Tune) (low : ℕ) (tunes : List Tune) → NumbersRiseFrom low tunes → NumbersRiseFrom low (with_tune new tunes)
 rises-with_tune new low [] rises = tt
 rises-with_tune new low (tune ∷ tunes) rises = elim (cases_Bool (eqb tune.number new.number)) [
   | inl same ↦
       let e : tune.number ≡ new.number = eqb-true tune.number new.number same in
-      let P : ℕ → Type 0 = λ n. (low < n) × RisesFrom n tunes in
+      let P : ℕ → Type 0 = λ n. (low < n) × NumbersRiseFrom n tunes in
       rw same (subst P e rises)
   | inr other ↦ rw other (rises.0, rises-with_tune new tune.number tunes rises.1)
 ]
@@ -185,12 +187,12 @@ state_after_text tunes number revision text (Some tune) state within =
 
 -- A TUNE LESS
 -- numbers above one are above a lower one
-rises-lower : (low high : ℕ) (tunes : List Tune) → low ≤ high → RisesFrom high tunes → RisesFrom low tunes
+rises-lower : (low high : ℕ) (tunes : List Tune) → low ≤ high → NumbersRiseFrom high tunes → NumbersRiseFrom low tunes
 rises-lower low high [] le rises = tt
 rises-lower low high (tune ∷ tunes) le rises = let first = rises.0 in (omega arith, rises.1)
 
 -- the numbers still rise
-pub rises-without : (number low : ℕ) (tunes : List Tune) → RisesFrom low tunes → RisesFrom low (without number tunes)
+pub rises-without : (number low : ℕ) (tunes : List Tune) → NumbersRiseFrom low tunes → NumbersRiseFrom low (without_tune number tunes)
 rises-without number low [] rises = tt
 rises-without number low (tune ∷ tunes) rises = elim (cases_Bool (eqb tune.number number)) [
   | inl same ↦ rw same (let first = rises.0 in rises-lower low tune.number tunes (omega arith) rises.1)
@@ -198,7 +200,7 @@ rises-without number low (tune ∷ tunes) rises = elim (cases_Bool (eqb tune.num
 ]
 
 -- the greatest number does not rise
-pub greatest-without : (number : ℕ) (tunes : List Tune) → greatest (without number tunes) ≤ greatest tunes
+pub greatest-without : (number : ℕ) (tunes : List Tune) → greatest (without_tune number tunes) ≤ greatest tunes
 greatest-without number [] = omega arith
 greatest-without number (tune ∷ tunes) = elim (cases_Bool (eqb tune.number number)) [
   | inl same ↦ rw same (omega arith)
@@ -206,7 +208,7 @@ greatest-without number (tune ∷ tunes) = elim (cases_Bool (eqb tune.number num
 ]
 
 -- there are no more tunes than before
-length-without : (number : ℕ) (tunes : List Tune) → length (without number tunes) ≤ length tunes
+length-without : (number : ℕ) (tunes : List Tune) → length (without_tune number tunes) ≤ length tunes
 length-without number [] = omega arith
 length-without number (tune ∷ tunes) = elim (cases_Bool (eqb tune.number number)) [
   | inl same ↦ rw same (omega arith)
@@ -215,7 +217,7 @@ length-without number (tune ∷ tunes) = elim (cases_Bool (eqb tune.number numbe
 
 -- and good tunes all
 pub each-without : (layout : Layout) (number : ℕ) (tunes : List Tune) → AllByRecursion (IsTune layout) tunes
-    → AllByRecursion (IsTune layout) (without number tunes)
+    → AllByRecursion (IsTune layout) (without_tune number tunes)
 each-without layout number [] each = tt
 each-without layout number (tune ∷ tunes) each = elim (cases_Bool (eqb tune.number number)) [
   | inl same ↦ rw same each.1
@@ -223,7 +225,7 @@ each-without layout number (tune ∷ tunes) each = elim (cases_Bool (eqb tune.nu
 ]
 
 -- a tune less keeps the limits
-pub state_after_delete : {layout : Layout} → (number : ℕ) (tunes : List Tune) → IsTunes layout tunes → IsTunes layout (without number tunes)
+pub state_after_delete : {layout : Layout} → (number : ℕ) (tunes : List Tune) → IsTunes layout tunes → IsTunes layout (without_tune number tunes)
 state_after_delete number tunes state = record {
   rises = rises-without number 0 tunes state.rises;
   numbers = omega (arith, greatest-without number tunes, state.numbers);

@@ -33,9 +33,9 @@ is_change_of_set name (SetDrop other) = bytes_eq other name
 is_change_of_set name command = false
 
 -- the places of a set, where there is the set, each with the number that its tune has now
-abbrev pub carried : (ℕ → ℕ) → Result (List ℕ) SetFault → Result (List ℕ) SetFault
-carried now (Ok numbers) = Ok (map now numbers)
-carried now (Err why) = Err why
+abbrev pub carried_places : (ℕ → ℕ) → Result (List ℕ) SetFault → Result (List ℕ) SetFault
+carried_places now (Ok numbers) = Ok (map now numbers)
+carried_places now (Err why) = Err why
 
 -- any other command leaves the set of a name the places that it had, or leaves it missing
 abbrev pub OthersKeepPlaces : State → List ℕ → Command → Type 0
@@ -43,4 +43,4 @@ OthersKeepPlaces state name command =
     let new = (step state command).0 in
     let now = now_at command (accepts state command) in
     IsFalse (is_change_of_set name command)
-    → places_of name new.sets ≡ carried now (places_of name state.sets)
+    → places_of name new.sets ≡ carried_places now (places_of name state.sets)

@@ -108,10 +108,11 @@ EndsFetch fetched failed old refusal new =
 -- PLANS
 -- A plan for a state, or a refusal, is an outcome: the change gives its state; or the refusal is
 -- its answer, if it is not of memory or the device.
-abbrev pub Decided : State → Result Plan Refusal → Outcome → Type 0
-Decided state (Ok plan) outcome = outcome ≡ (after plan.change state, Ok plan.reply)
-Decided state (Err refusal) outcome = IsRefusalOfFetch refusal ⊎ (outcome ≡ (state, Err refusal))
+abbrev pub PlansOutcome : State → Result Plan Refusal → Outcome → Type 0
+PlansOutcome state (Ok plan) outcome = outcome ≡ (after plan.change state, Ok plan.reply)
+PlansOutcome state (Err refusal) outcome = IsRefusalOfFetch refusal
+    ⊎ (outcome ≡ (state, Err refusal))
 
 -- a plan for a command, or a refusal, is what the step of a state asks for
 abbrev pub Decides : State → Command → Result Plan Refusal → Type 0
-Decides state command result = Decided state result (step state command)
+Decides state command result = PlansOutcome state result (step state command)

@@ -60,11 +60,11 @@ is_delete_of number (Delete other) = other == number
 is_delete_of number command = false
 
 -- no accepted Delete of the tune that begins with a number is in a run
-abbrev pub Stays : ℕ → List Answered → Type 0
-Stays number [] = ⊤
-Stays number (next ∷ run) =
+abbrev pub StaysUndeleted : ℕ → List Answered → Type 0
+StaysUndeleted number [] = ⊤
+StaysUndeleted number (next ∷ run) =
     IsFalse (is_delete_of number next.command && is_ok next.answer)
-    × Stays (now_after next number) run
+    × StaysUndeleted (now_after next number) run
 
 -- how many accepted Replaces of the tune that begins with a number are in a run
 abbrev pub times_replaced : ℕ → List Answered → ℕ
@@ -103,7 +103,7 @@ RaisesReplaced command old new = ⊤
 abbrev pub RevisionCounts : Standing → List Answered → Standing → ℕ → ℕ → Type 0
 RevisionCounts old run new number revision =
     Runs old run new → new.closed ≡ false → revision_of number old.state ≡ Some revision
-    → Stays number run
+    → StaysUndeleted number run
     → revision_of (number_after run number) new.state
     ≡ Some (revision + times_replaced number run)
 
@@ -111,7 +111,7 @@ RevisionCounts old run new number revision =
 -- accepted Replace of it came since
 abbrev pub AcceptedReplaceIsCurrent : Standing → List Answered → Standing → ℕ → ℕ → Type 0
 AcceptedReplaceIsCurrent old run mid number revision =
-    Runs old run mid → revision_of number old.state ≡ Some revision → Stays number run
+    Runs old run mid → revision_of number old.state ≡ Some revision → StaysUndeleted number run
     → (book : List ℕ) (reply : Reply) (new : Standing)
     → Answers mid (Replace (number_after run number) revision book) (Ok reply) new
     → times_replaced number run ≡ 0

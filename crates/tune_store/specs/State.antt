@@ -44,9 +44,9 @@ greatest [] = 0
 greatest (tune ∷ tunes) = max tune.number (greatest tunes)
 
 -- numbers rise strictly, and are above this one
-abbrev pub RisesFrom : ℕ → List Tune → Type 0
-RisesFrom low [] = ⊤
-RisesFrom low (tune ∷ tunes) = (low < tune.number) × RisesFrom tune.number tunes
+abbrev pub NumbersRiseFrom : ℕ → List Tune → Type 0
+NumbersRiseFrom low [] = ⊤
+NumbersRiseFrom low (tune ∷ tunes) = (low < tune.number) × NumbersRiseFrom tune.number tunes
 
 -- a tune within the limits
 pub record IsTune (layout : Layout) (tune : Tune) : Type 0 where
@@ -57,7 +57,7 @@ pub record IsTune (layout : Layout) (tune : Tune) : Type 0 where
 
 -- tunes within the limits, by rising number
 pub record IsTunes (layout : Layout) (tunes : List Tune) : Type 0 where
-  pub rises : RisesFrom 0 tunes
+  pub rises : NumbersRiseFrom 0 tunes
   pub numbers : greatest tunes ≤ greatest_number
   pub each : AllByRecursion (IsTune layout) tunes
   pub count : length tunes ≤ most_tunes layout

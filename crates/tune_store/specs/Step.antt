@@ -2,7 +2,7 @@
 use Rattle.std.specs.Prelude.{Ok}
 use Rattle.abc_fields.specs.Books.{book_answer}
 use Rattle.tune_sets.specs.Sets.{holder}
-use Rattle.tune_sets.specs.Calls.{places_of, rows_of}
+use Rattle.tune_sets.specs.Calls.{places_of, set_rows_of}
 use Rattle.tune_store.specs.Limits.{longest_text, notes_of}
 use Rattle.tune_store.specs.State.{State, tune_at}
 use Rattle.tune_store.specs.TuneSteps.{Outcome, tunes_step, import_book, replace_book}
@@ -36,7 +36,7 @@ step state (SetNew name) = set_new state name
 step state (SetAdd name number) = set_add state name number
 step state (SetCut name place) = set_cut state name place
 step state (SetDrop name) = set_drop state name
-step state Sets = (state, Ok (reply.Sets (rows_of state.sets)))
+step state Sets = (state, Ok (reply.Sets (set_rows_of state.sets)))
 step state (SetShow name) = (state, set_shown name state.tunes (places_of name state.sets))
 step state ExportAll = (state, Ok (reply.Exported (exported state.tunes)))
 step state (ExportSet name) = (state, set_exported name state.tunes (places_of name state.sets))

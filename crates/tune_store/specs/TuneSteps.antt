@@ -74,10 +74,10 @@ with_tune new (tune ∷ tunes) =
     if tune.number == new.number then new ∷ tunes else tune ∷ with_tune new tunes
 
 -- the tunes without the one of this number
-abbrev pub without : ℕ → List Tune → List Tune
-without number [] = []
-without number (tune ∷ tunes) =
-    if tune.number == number then tunes else tune ∷ without number tunes
+abbrev pub without_tune : ℕ → List Tune → List Tune
+without_tune number [] = []
+without_tune number (tune ∷ tunes) =
+    if tune.number == number then tunes else tune ∷ without_tune number tunes
 
 -- REPLACE
 -- the tune with another text, one revision later
@@ -109,7 +109,7 @@ replace_book tunes number revision (Err why) = (tunes, Err (refusal_of why))
 -- a tune is taken out, where no set names it
 abbrev pub delete_unheld : List Tune → ℕ → Option (List ℕ) → TunesOutcome
 delete_unheld tunes number (Some name) = (tunes, Err (InSet name))
-delete_unheld tunes number None = (without number tunes, Ok (Deleted number))
+delete_unheld tunes number None = (without_tune number tunes, Ok (Deleted number))
 
 -- a tune is taken out, where there is one; beside it the least name of a set that names it
 abbrev pub delete_tune : List Tune → ℕ → Option (List ℕ) → Option Tune → TunesOutcome
@@ -122,14 +122,15 @@ abbrev pub is_number : ℕ → Bool
 is_number number = nat_lt 0 number && nat_le number greatest_number
 
 -- a tune before the first one of a greater number
-abbrev pub inserted : Tune → List Tune → List Tune
-inserted new [] = new ∷ []
-inserted new (tune ∷ tunes) =
-    if nat_lt new.number tune.number then new ∷ tune ∷ tunes else tune ∷ inserted new tunes
+abbrev pub tune_inserted : Tune → List Tune → List Tune
+tune_inserted new [] = new ∷ []
+tune_inserted new (tune ∷ tunes) =
+    if nat_lt new.number tune.number then new ∷ tune ∷ tunes else tune ∷ tune_inserted new tunes
 
 -- the tunes with this one under another number
 abbrev pub moved_tune : Tune → ℕ → List Tune → List Tune
-moved_tune tune to tunes = inserted (record tune { number = to }) (without tune.number tunes)
+moved_tune tune to tunes = tune_inserted (record tune { number = to })
+    (without_tune tune.number tunes)
 
 -- the tunes with the one of a number under another one, where there is one
 abbrev pub moved_if : ℕ → List Tune → Option Tune → List Tune

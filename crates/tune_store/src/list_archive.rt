@@ -2,7 +2,7 @@
 ghost use Rattle.std.specs.Prelude.{◌≡◌, ◌≢◌, ℕ, ◌+◌, ◌^◌, ◌<◌, ◌≤◌, ◌++◌, true, length};
 ghost use Rattle.std.specs.Prelude.{IfSome, IfNone, IfErr, IsErrOf, OnOk, OnErr};
 ghost use Rattle.std.specs.Prelude.{IsTrue, false, slice_index_or, vec_len};
-ghost use Rattle.tune_store.specs.State.{State, IsState, RisesFrom, empty_state};
+ghost use Rattle.tune_store.specs.State.{State, IsState, NumbersRiseFrom, empty_state};
 ghost use Rattle.tune_store.specs.TuneSteps.{numbered, moved};
 ghost use Rattle.tune_store.specs.Labels.{labels_of};
 ghost use Rattle.tune_store.specs.Answers.{Answers, IsRefusalOf, open_at, passed, stays_open};
@@ -153,7 +153,7 @@ impl Catalog for ListArchive {
 
 // The place of the first tune whose number is not below this one, or behind the last.
 fn place_from(tunes: &TieredVector<Tune>, number: u32) -> usize
-    requires { RisesFrom 0 tunes.now.items }
+    requires { NumbersRiseFrom 0 tunes.now.items }
     ensures { IsPlaceFrom number tunes.now.items result }
 {
     let mut first = 0;
@@ -190,7 +190,7 @@ fn place_without_gaps(tunes: &TieredVector<Tune>, number: u32) -> usize {
 
 // The place of the tune of a number.
 fn place_of(tunes: &TieredVector<Tune>, number: u32) -> Option<usize>
-    requires { RisesFrom 0 tunes.now.items }
+    requires { NumbersRiseFrom 0 tunes.now.items }
     ensures within { IfSome result (λ place. place < length (labels_of tunes.now.items)) }
     ensures found { IfSome result (λ place. (d : Label)
         → (slice_index_or (labels_of tunes.now.items) place d).number ≡ number) }
@@ -247,7 +247,7 @@ fn carry_out(
     sets: &mut SetLists,
     plan: Plan,
 ) -> Result<Reply, Refusal>
-    requires rises { RisesFrom 0 tunes.old.items }
+    requires rises { NumbersRiseFrom 0 tunes.old.items }
     requires possible { CanChangeTo plan.change layout.old (labels_of tunes.old.items) sets.old }
     ensures { CarriedOut (state_with layout.old tunes.old.items sets.old) plan result
         (state_with layout.new tunes.new.items sets.new) }
@@ -266,7 +266,7 @@ fn make(
     sets: &mut SetLists,
     change: Change,
 ) -> Result<(), Refusal>
-    requires rises { RisesFrom 0 tunes.old.items }
+    requires rises { NumbersRiseFrom 0 tunes.old.items }
     requires possible { CanChange change layout.old (labels_of tunes.old.items) sets.old }
     ensures { Made (state_with layout.old tunes.old.items sets.old) change result
         (state_with layout.new tunes.new.items sets.new) }
@@ -317,7 +317,7 @@ fn add_tunes(tunes: &mut TieredVector<Tune>, texts: Vec<TuneText>, first: u32)
 
 // Gives the tune of a number another one, and moves it to where that belongs.
 fn move_tune(tunes: &mut TieredVector<Tune>, number: u32, to: u32)
-    requires { RisesFrom 0 tunes.old.items }
+    requires { NumbersRiseFrom 0 tunes.old.items }
     ensures { tunes.new.items ≡ moved number to tunes.old.items }
 {
     if let Some(place) = place_of(tunes, number) {
@@ -330,7 +330,7 @@ fn move_tune(tunes: &mut TieredVector<Tune>, number: u32, to: u32)
 
 // The place of the first tune of a greater number, or behind the last.
 fn place_after(tunes: &TieredVector<Tune>, number: u32) -> usize
-    requires { RisesFrom 0 tunes.now.items }
+    requires { NumbersRiseFrom 0 tunes.now.items }
     ensures { IsPlaceAfter number tunes.now.items result }
 {
     let place = place_from(tunes, number);

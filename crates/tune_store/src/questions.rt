@@ -5,13 +5,14 @@ ghost use Rattle.std.specs.Prelude.{if◌then◌else◌, IfOk, IfErr, OnOk, Matc
 ghost use Rattle.abc_fields.specs.Fields.{titles_of};
 ghost use Rattle.tune_incipit.specs.Limits.{fewest_notes, most_notes};
 ghost use Rattle.tune_queries.specs.Queries.{finds};
-ghost use Rattle.tune_sets.specs.Calls.{places_of, rows_of};
+ghost use Rattle.tune_sets.specs.Calls.{places_of, set_rows_of};
 ghost use Rattle.tune_titles.specs.ShownRows.{shown_row};
 ghost use Rattle.tune_store.specs.Limits.{notes_of};
-ghost use Rattle.tune_store.specs.State.{State, RisesFrom, tune_at};
+ghost use Rattle.tune_store.specs.State.{State, NumbersRiseFrom, tune_at};
 ghost use Rattle.tune_store.specs.Questions.{shown, find, first_shown, titles_from};
 ghost use Rattle.tune_store.specs.Questions.{titled, row_found, set_shown, exported, set_exported};
-ghost use Rattle.tune_store.specs.Plans.{Decided, EndsFetch, IsRefusalOfPlan, IsRefusalOfFetch};
+ghost use Rattle.tune_store.specs.Plans.{PlansOutcome, EndsFetch, IsRefusalOfPlan};
+ghost use Rattle.tune_store.specs.Plans.{IsRefusalOfFetch};
 ghost use Rattle.tune_store.specs.Inside.Questions.{shown_title};
 ghost use Rattle.tune_store.specs.declared.command.Reply.TheVariants as reply;
 ghost use Rattle.tune_store.specs.declared.tune.Tune.{Tune};
@@ -37,8 +38,8 @@ const FRONT_BYTES: usize = 14;
 // A copy of the tune of a number.
 pub(crate) fn show<C: Catalog>(alloc: Global, catalog: &mut C, number: u32) -> Result<Plan, Refusal>
     ensures planned { let state = C.state catalog.old in
-        C.honest catalog.new → RisesFrom 0 state.tunes
-        → Decided state result (state, shown number (tune_at number state.tunes)) }
+        C.honest catalog.new → NumbersRiseFrom 0 state.tunes
+        → PlansOutcome state result (state, shown number (tune_at number state.tunes)) }
     ensures names { IfErr result (IsRefusalOfPlan (Command.Show number)) }
     ensures asks { IfOk result (λ plan. plan.change ≡ None) }
     ensures fetched { MatchResult result (λ _. C.fetched catalog.old catalog.new)
@@ -65,7 +66,7 @@ pub(crate) fn find<C: Catalog>(
     query: &Query,
 ) -> Result<Plan, Refusal>
     ensures planned { let state = C.state catalog.old in
-        C.honest catalog.new → Decided state result
+        C.honest catalog.new → PlansOutcome state result
         (state, find (notes_of state.layout) query.now state.tunes) }
     ensures names { IfErr result (IsRefusalOfPlan (Command.Find query.now)) }
     ensures asks { IfOk result (λ plan. plan.change ≡ None) }
@@ -145,7 +146,7 @@ fn row_of(alloc: Global, number: u32, text: &TuneText) -> Result<IndexRow, Alloc
 // The titles of all tunes, in the order of an index.
 pub(crate) fn titles<C: Catalog>(alloc: Global, catalog: &mut C) -> Result<Plan, Refusal>
     ensures planned { let state = C.state catalog.old in C.honest catalog.new
-        → Decided state result (state, Ok (reply.Titled (titled state.tunes))) }
+        → PlansOutcome state result (state, Ok (reply.Titled (titled state.tunes))) }
     ensures names { IfErr result IsRefusalOfFetch }
     ensures asks { IfOk result (λ plan. plan.change ≡ None) }
     ensures fetched { MatchResult result (λ _. C.fetched catalog.old catalog.new)
@@ -197,7 +198,7 @@ fn shown_rows(alloc: Global, rows: Vec<ShownRow>) -> Result<RowList, AllocError>
 // The names of the set lists, and how many places each has.
 pub(crate) fn sets<C: Catalog>(catalog: &C) -> Result<Plan, Refusal>
     ensures planned { (state : State) → C.sets catalog.now ≡ state.sets
-        → Decided state result (state, Ok (reply.Sets (rows_of state.sets))) }
+        → PlansOutcome state result (state, Ok (reply.Sets (set_rows_of state.sets))) }
     ensures names { IfErr result (λ refusal. refusal ≡ Refusal.OutOfMemory) }
     ensures asks { IfOk result (λ plan. plan.change ≡ None) }
 {
@@ -212,7 +213,7 @@ pub(crate) fn set_show<C: Catalog>(
     name: &[u8],
 ) -> Result<Plan, Refusal>
     ensures planned { let state = C.state catalog.old in
-        C.honest catalog.new → RisesFrom 0 state.tunes → Decided state result
+        C.honest catalog.new → NumbersRiseFrom 0 state.tunes → PlansOutcome state result
         (state, set_shown name.now state.tunes (places_of name.now state.sets)) }
     ensures names { IfErr result (IsRefusalOfPlan (Command.SetShow name.now)) }
     ensures asks { IfOk result (λ plan. plan.change ≡ None) }
@@ -233,7 +234,7 @@ pub(crate) fn set_show<C: Catalog>(
 // The row of the tune of a number; the number alone where there is none.
 fn row_at<C: Catalog>(alloc: Global, catalog: &mut C, number: u32) -> Result<IndexRow, Refusal>
     ensures row { let state = C.state catalog.old in
-        C.honest catalog.new → RisesFrom 0 state.tunes
+        C.honest catalog.new → NumbersRiseFrom 0 state.tunes
         → IfOk result (λ row. row ≡ row_found number (tune_at number state.tunes)) }
     ensures names { IfErr result IsRefusalOfFetch }
     ensures fetched { MatchResult result (λ _. C.fetched catalog.old catalog.new)
@@ -262,7 +263,7 @@ fn room_for_book<C: Catalog>(catalog: &C) -> usize {
 // The written book of all tunes. Room for all of it is asked for before a text is fetched.
 pub(crate) fn export<C: Catalog>(alloc: Global, catalog: &mut C) -> Result<Plan, Refusal>
     ensures planned { let state = C.state catalog.old in C.honest catalog.new
-        → Decided state result (state, Ok (reply.Exported (exported state.tunes))) }
+        → PlansOutcome state result (state, Ok (reply.Exported (exported state.tunes))) }
     ensures names { IfErr result IsRefusalOfFetch }
     ensures asks { IfOk result (λ plan. plan.change ≡ None) }
     ensures fetched { MatchResult result (λ _. C.fetched catalog.old catalog.new)
@@ -284,7 +285,7 @@ pub(crate) fn export_set<C: Catalog>(
     name: &[u8],
 ) -> Result<Plan, Refusal>
     ensures planned { let state = C.state catalog.old in
-        C.honest catalog.new → RisesFrom 0 state.tunes → Decided state result
+        C.honest catalog.new → NumbersRiseFrom 0 state.tunes → PlansOutcome state result
         (state, set_exported name.now state.tunes (places_of name.now state.sets)) }
     ensures names { IfErr result (IsRefusalOfPlan (Command.ExportSet name.now)) }
     ensures asks { IfOk result (λ plan. plan.change ≡ None) }

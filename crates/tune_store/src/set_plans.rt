@@ -2,12 +2,12 @@
 ghost use Rattle.std.specs.Prelude.{◌≡◌, false, Err, IfOk, IfErr, IsOk};
 ghost use Rattle.tune_sets.specs.Calls.{places_of};
 ghost use Rattle.tune_sets.specs.declared.faults.SetFault.TheVariants as fault;
-ghost use Rattle.tune_store.specs.State.{State, RisesFrom};
+ghost use Rattle.tune_store.specs.State.{State, NumbersRiseFrom};
 ghost use Rattle.tune_store.specs.SetSteps.{set_new, set_add, set_cut, set_drop};
 ghost use Rattle.tune_store.specs.Labels.{labels_of};
 ghost use Rattle.tune_store.specs.Answers.{IsRefusalOfOwn};
-ghost use Rattle.tune_store.specs.Plans.{Decided, CanChangeTo, grows};
-ghost use Rattle.tune_store.specs.Inside.Plans.{Alters};
+ghost use Rattle.tune_store.specs.Plans.{PlansOutcome, CanChangeTo, grows};
+ghost use Rattle.tune_store.specs.Inside.Plans.{AltersLabels};
 
 use crate::catalog::Catalog;
 use crate::command::{Command, Refusal, Reply};
@@ -33,12 +33,12 @@ pub(crate) fn held_name(sets: &SetLists, name: &[u8]) -> Result<SetName, Refusal
 // What a new set list asks for.
 pub(crate) fn set_new<C: Catalog>(catalog: &C, name: &[u8]) -> Result<Plan, Refusal>
     ensures planned { (state : State) → C.sets catalog.now ≡ state.sets
-        → Decided state result (set_new state name.now) }
+        → PlansOutcome state result (set_new state name.now) }
     ensures names { IfErr result (IsRefusalOfOwn (Command.SetNew name.now)) }
     ensures possible { IfOk result
         (λ plan. CanChangeTo plan.change
         (C.layout catalog.now) (C.labels catalog.now) (C.sets catalog.now)) }
-    ensures alters { IfOk result (λ plan. Alters plan.change (C.labels catalog.now)) }
+    ensures alters { IfOk result (λ plan. AltersLabels plan.change (C.labels catalog.now)) }
 {
     let sets = catalog.sets();
     let Some(held) = SetName::new(name) else {
@@ -56,14 +56,14 @@ pub(crate) fn set_new<C: Catalog>(catalog: &C, name: &[u8]) -> Result<Plan, Refu
 
 // What one more place of a set list asks for.
 pub(crate) fn set_add<C: Catalog>(catalog: &C, name: &[u8], number: u32) -> Result<Plan, Refusal>
-    ensures planned { (state : State) → RisesFrom 0 state.tunes
+    ensures planned { (state : State) → NumbersRiseFrom 0 state.tunes
         → labels_of state.tunes ≡ C.labels catalog.now → C.sets catalog.now ≡ state.sets
-        → Decided state result (set_add state name.now number) }
+        → PlansOutcome state result (set_add state name.now number) }
     ensures names { IfErr result (IsRefusalOfOwn (Command.SetAdd name.now number)) }
     ensures possible { IfOk result
         (λ plan. CanChangeTo plan.change
         (C.layout catalog.now) (C.labels catalog.now) (C.sets catalog.now)) }
-    ensures alters { IfOk result (λ plan. Alters plan.change (C.labels catalog.now)) }
+    ensures alters { IfOk result (λ plan. AltersLabels plan.change (C.labels catalog.now)) }
 {
     if catalog.place_of(number).is_none() {
         return Err(Refusal::Unknown { number });
@@ -81,12 +81,12 @@ pub(crate) fn set_add<C: Catalog>(catalog: &C, name: &[u8], number: u32) -> Resu
 // What one place less of a set list asks for.
 pub(crate) fn set_cut<C: Catalog>(catalog: &C, name: &[u8], place: u32) -> Result<Plan, Refusal>
     ensures planned { (state : State) → C.sets catalog.now ≡ state.sets
-        → Decided state result (set_cut state name.now place) }
+        → PlansOutcome state result (set_cut state name.now place) }
     ensures names { IfErr result (IsRefusalOfOwn (Command.SetCut name.now place)) }
     ensures possible { IfOk result
         (λ plan. CanChangeTo plan.change
         (C.layout catalog.now) (C.labels catalog.now) (C.sets catalog.now)) }
-    ensures alters { IfOk result (λ plan. Alters plan.change (C.labels catalog.now)) }
+    ensures alters { IfOk result (λ plan. AltersLabels plan.change (C.labels catalog.now)) }
     ensures takes { IfOk result (λ plan. grows plan.change ≡ false) }
 {
     let numbers = catalog.sets().places(name)?;
@@ -101,12 +101,12 @@ pub(crate) fn set_cut<C: Catalog>(catalog: &C, name: &[u8], place: u32) -> Resul
 // What taking out a set list asks for.
 pub(crate) fn set_drop<C: Catalog>(catalog: &C, name: &[u8]) -> Result<Plan, Refusal>
     ensures planned { (state : State) → C.sets catalog.now ≡ state.sets
-        → Decided state result (set_drop state name.now) }
+        → PlansOutcome state result (set_drop state name.now) }
     ensures names { IfErr result (IsRefusalOfOwn (Command.SetDrop name.now)) }
     ensures possible { IfOk result
         (λ plan. CanChangeTo plan.change
         (C.layout catalog.now) (C.labels catalog.now) (C.sets catalog.now)) }
-    ensures alters { IfOk result (λ plan. Alters plan.change (C.labels catalog.now)) }
+    ensures alters { IfOk result (λ plan. AltersLabels plan.change (C.labels catalog.now)) }
     ensures takes { IfOk result (λ plan. grows plan.change ≡ false) }
 {
     let name = held_name(catalog.sets(), name)?;

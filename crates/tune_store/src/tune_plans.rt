@@ -6,13 +6,13 @@ ghost use Rattle.abc_fields.specs.Books.{book_answer};
 ghost use Rattle.tune_sets.specs.Sets.{holder};
 ghost use Rattle.tune_store.specs.declared.tune.Tune.{Tune};
 ghost use Rattle.tune_store.specs.Limits.{longest_text};
-ghost use Rattle.tune_store.specs.State.{State, IsTunes, RisesFrom, greatest, tune_at};
+ghost use Rattle.tune_store.specs.State.{State, IsTunes, NumbersRiseFrom, greatest, tune_at};
 ghost use Rattle.tune_store.specs.TuneSteps.{tunes_step, import_book, replace_book, replace_tune};
 ghost use Rattle.tune_store.specs.TuneSteps.{delete_tune, renumber, upgraded_state};
 ghost use Rattle.tune_store.specs.Labels.{labels_of};
 ghost use Rattle.tune_store.specs.Answers.{IsRefusalOfOwn};
-ghost use Rattle.tune_store.specs.Plans.{Decided, CanChangeTo, grows};
-ghost use Rattle.tune_store.specs.Inside.Plans.{Alters, IsOwnOrMemory};
+ghost use Rattle.tune_store.specs.Plans.{PlansOutcome, CanChangeTo, grows};
+ghost use Rattle.tune_store.specs.Inside.Plans.{AltersLabels, IsOwnOrMemory};
 
 use crate::catalog::Catalog;
 use crate::command::{Command, Refusal, Reply};
@@ -26,14 +26,14 @@ use std::alloc::Global;
 pub(crate) fn import<C: Catalog>(alloc: Global, catalog: &C, book: &[u8]) -> Result<Plan, Refusal>
     ensures planned { (state : State) → IsTunes state.layout state.tunes
         → C.layout catalog.now ≡ state.layout
-        → labels_of state.tunes ≡ C.labels catalog.now → Decided state result
+        → labels_of state.tunes ≡ C.labels catalog.now → PlansOutcome state result
         (tunes_step state (import_book state.layout state.tunes
         (book_answer (longest_text state.layout) book.now))) }
     ensures names { IfErr result (IsOwnOrMemory (Command.Import book.now)) }
     ensures possible { IfOk result
         (λ plan. CanChangeTo plan.change
         (C.layout catalog.now) (C.labels catalog.now) (C.sets catalog.now)) }
-    ensures alters { IfOk result (λ plan. Alters plan.change (C.labels catalog.now)) }
+    ensures alters { IfOk result (λ plan. AltersLabels plan.change (C.labels catalog.now)) }
 {
     let layout = catalog.layout();
     let judged = judge_book(alloc, book, layout.longest_text())?;
@@ -57,7 +57,7 @@ pub(crate) fn import<C: Catalog>(alloc: Global, catalog: &C, book: &[u8]) -> Res
 
 // The greatest number, or 0.
 fn last_number<C: Catalog>(catalog: &C) -> u32
-    ensures greatest { (tunes : List Tune) → RisesFrom 0 tunes
+    ensures greatest { (tunes : List Tune) → NumbersRiseFrom 0 tunes
         → labels_of tunes ≡ C.labels catalog.now → result ≡ greatest tunes }
     ensures above { AllByRecursion (λ label. label.number < result + 1) (C.labels catalog.now) }
 {
@@ -78,14 +78,14 @@ pub(crate) fn replace<C: Catalog>(
 ) -> Result<Plan, Refusal>
     ensures planned { (state : State) → IsTunes state.layout state.tunes
         → C.layout catalog.now ≡ state.layout
-        → labels_of state.tunes ≡ C.labels catalog.now → Decided state result
+        → labels_of state.tunes ≡ C.labels catalog.now → PlansOutcome state result
         (tunes_step state (replace_book state.tunes number revision
         (book_answer (longest_text state.layout) book.now))) }
     ensures names { IfErr result (IsOwnOrMemory (Command.Replace number revision book.now)) }
     ensures possible { IfOk result
         (λ plan. CanChangeTo plan.change
         (C.layout catalog.now) (C.labels catalog.now) (C.sets catalog.now)) }
-    ensures alters { IfOk result (λ plan. Alters plan.change (C.labels catalog.now)) }
+    ensures alters { IfOk result (λ plan. AltersLabels plan.change (C.labels catalog.now)) }
 {
     let judged = judge_book(alloc, book, catalog.layout().longest_text())?;
     let text = only_text(alloc, &judged)?;
@@ -115,15 +115,15 @@ fn replace_text<C: Catalog>(
     revision: u32,
     text: TuneText,
 ) -> Result<Plan, Refusal>
-    ensures planned { (state : State) → RisesFrom 0 state.tunes
-        → labels_of state.tunes ≡ C.labels catalog.now → Decided state result (tunes_step state
+    ensures planned { (state : State) → NumbersRiseFrom 0 state.tunes
+        → labels_of state.tunes ≡ C.labels catalog.now → PlansOutcome state result (tunes_step state
         (replace_tune state.tunes number revision text (tune_at number state.tunes))) }
     ensures names { IfErr result (λ refusal.
         (book : List ℕ) → IsOwnOrMemory (Command.Replace number revision book) refusal) }
     ensures possible { IfOk result
         (λ plan. CanChangeTo plan.change
         (C.layout catalog.now) (C.labels catalog.now) (C.sets catalog.now)) }
-    ensures alters { IfOk result (λ plan. Alters plan.change (C.labels catalog.now)) }
+    ensures alters { IfOk result (λ plan. AltersLabels plan.change (C.labels catalog.now)) }
 {
     let Some(place) = catalog.place_of(number) else {
         return Err(Refusal::Unknown { number });
@@ -147,15 +147,15 @@ fn replace_text<C: Catalog>(
 
 // What taking out a tune asks for.
 pub(crate) fn delete<C: Catalog>(catalog: &C, number: u32) -> Result<Plan, Refusal>
-    ensures planned { (state : State) → RisesFrom 0 state.tunes
+    ensures planned { (state : State) → NumbersRiseFrom 0 state.tunes
         → labels_of state.tunes ≡ C.labels catalog.now → C.sets catalog.now ≡ state.sets
-        → Decided state result (tunes_step state (delete_tune state.tunes number
+        → PlansOutcome state result (tunes_step state (delete_tune state.tunes number
         (holder number state.sets) (tune_at number state.tunes))) }
     ensures names { IfErr result (IsRefusalOfOwn (Command.Delete number)) }
     ensures possible { IfOk result
         (λ plan. CanChangeTo plan.change
         (C.layout catalog.now) (C.labels catalog.now) (C.sets catalog.now)) }
-    ensures alters { IfOk result (λ plan. Alters plan.change (C.labels catalog.now)) }
+    ensures alters { IfOk result (λ plan. AltersLabels plan.change (C.labels catalog.now)) }
     ensures takes { IfOk result (λ plan. grows plan.change ≡ false) }
 {
     let Some(place) = catalog.place_of(number) else {
@@ -169,14 +169,14 @@ pub(crate) fn delete<C: Catalog>(catalog: &C, number: u32) -> Result<Plan, Refus
 
 // What another number for a tune asks for.
 pub(crate) fn renumber<C: Catalog>(catalog: &C, number: u32, to: u32) -> Result<Plan, Refusal>
-    ensures planned { (state : State) → RisesFrom 0 state.tunes
+    ensures planned { (state : State) → NumbersRiseFrom 0 state.tunes
         → labels_of state.tunes ≡ C.labels catalog.now
-        → Decided state result (renumber state number to) }
+        → PlansOutcome state result (renumber state number to) }
     ensures names { IfErr result (IsRefusalOfOwn (Command.Renumber number to)) }
     ensures possible { IfOk result
         (λ plan. CanChangeTo plan.change
         (C.layout catalog.now) (C.labels catalog.now) (C.sets catalog.now)) }
-    ensures alters { IfOk result (λ plan. Alters plan.change (C.labels catalog.now)) }
+    ensures alters { IfOk result (λ plan. AltersLabels plan.change (C.labels catalog.now)) }
     ensures takes { IfOk result (λ plan. grows plan.change ≡ false) }
 {
     if to == 0 || to > GREATEST_NUMBER {
@@ -198,10 +198,10 @@ pub(crate) fn renumber<C: Catalog>(catalog: &C, number: u32, to: u32) -> Result<
 // What layout 2 asks for.
 pub(crate) fn upgrade<C: Catalog>(catalog: &C) -> Plan
     ensures planned { (state : State) → C.layout catalog.now ≡ state.layout
-        → Decided state (Ok result) (upgraded_state state, Ok Reply.Upgraded) }
+        → PlansOutcome state (Ok result) (upgraded_state state, Ok Reply.Upgraded) }
     ensures possible { CanChangeTo result.change
         (C.layout catalog.now) (C.labels catalog.now) (C.sets catalog.now) }
-    ensures alters { Alters result.change (C.labels catalog.now) }
+    ensures alters { AltersLabels result.change (C.labels catalog.now) }
     ensures takes { grows result.change ≡ false }
 {
     match catalog.layout() {

@@ -12,9 +12,10 @@ use Rattle.std.proofs.lemmas.Slice.Eq.{starts_is}
 use Rattle.abc_fields.specs.Bytes.{space, line_feed}
 use Rattle.tune_undo.specs.OldEntries.{EntryValue, StepValue}
 use Rattle.tune_undo.specs.EntryBytes.{kind_word, IsMark, parts_bytes, IsEntry, entry_bytes, mark_bytes}
-use Rattle.tune_undo.specs.OldItems.{OldEntry, IsOld, old_bytes, IsWritten, Begins, Item, Entered, Marked, ItemPlace, Top, Start, Within, after_feed}
-use Rattle.tune_undo.specs.OldItems.{next, Stands, IsLog, standing, standing_after, after_item}
-use Rattle.tune_undo.specs.OldTextLaws.{is_ended, before_piece, made_ready, IsPiece, AddsItem, AddsNothing}
+use Rattle.tune_undo.specs.OldItems.{OldEntry, IsOld, old_bytes, IsItemWritten, BeginsWithItem, Item, Entered, Marked, ItemPlace, Top, Start, Within}
+use Rattle.tune_undo.specs.OldItems.{place_after_feed}
+use Rattle.tune_undo.specs.OldItems.{next, Stands, IsItemLog, standing, standing_after, after_item}
+use Rattle.tune_undo.specs.OldTextLaws.{is_ended, before_piece, made_ready, IsWrittenItem, AddsItem, AddsNothing}
 use Rattle.tune_undo.specs.Inside.ItemReading.{◌>>=◌, field_at, mark_of}
 use Rattle.tune_undo.specs.Inside.EntryLines.{first_line_at, old_line_at, mark_line_at}
 use Rattle.tune_undo.specs.declared.old_entries.EntryKind.{EntryKind}
@@ -85,7 +86,7 @@ entry_no_mark e rest is =
     ∙ ap (λ (o : Option Mark). o >>= (λ mark. Some (mark, more))) (mark_of_kind e.kind numbers))
 
 -- what begins with a written entry is that entry
-entry_only : (e : EntryValue) (item : Item) (front rest : List ℕ) → IsEntry e → front ++ rest ≡ entry_bytes e → IsWritten front item
+entry_only : (e : EntryValue) (item : Item) (front rest : List ℕ) → IsEntry e → front ++ rest ≡ entry_bytes e → IsItemWritten front item
     → (item ≡ Entered e) × (front ≡ entry_bytes e)
 entry_only e (Entered f) front rest is whole (inl w) =
     let both = same_Some _ _ (sym (entry_again f rest (entry_bytes e) w.0 (ap (λ t. t ++ rest) (sym w.1) ∙ whole))
@@ -113,7 +114,7 @@ mark_no_old NotDone = refl
 mark_no_old Undone = refl
 mark_no_old (Undoing greatest) = refl
 
-mark_only : (mark : Mark) (item : Item) (front rest : List ℕ) → IsMark mark → front ++ rest ≡ mark_bytes mark → IsWritten front item
+mark_only : (mark : Mark) (item : Item) (front rest : List ℕ) → IsMark mark → front ++ rest ≡ mark_bytes mark → IsItemWritten front item
     → (item ≡ Marked mark) × (front ≡ mark_bytes mark)
 mark_only mark (Entered f) front rest good whole (inl w) =
     absurd (none-some _ (sym (mark_no_entry mark) ∙ entry_again f rest (mark_bytes mark) w.0 (ap (λ t. t ++ rest) (sym w.1) ∙ whole)))
@@ -126,19 +127,19 @@ mark_only mark (Marked other) front rest good whole written =
     let none : rest ≡ [] = ap (λ p. p.1) both in
     (ap (λ m. Marked m) marks, sym (append-nil front) ∙ ap (λ t. front ++ t) (sym none) ∙ whole)
 
-piece_only : (piece : List ℕ) (item other : Item) (front rest : List ℕ) → IsPiece piece item → front ++ rest ≡ piece → IsWritten front other
+piece_only : (piece : List ℕ) (item other : Item) (front rest : List ℕ) → IsWrittenItem piece item → front ++ rest ≡ piece → IsItemWritten front other
     → (other ≡ item) × (front ≡ piece)
 piece_only piece (Entered e) other front rest is whole written =
     let only = entry_only e other front rest is.0 (whole ∙ is.1) written in (only.0, only.1 ∙ sym is.1)
 piece_only piece (Marked mark) other front rest is whole written =
     let only = mark_only mark other front rest is.0 (whole ∙ is.1) written in (only.0, only.1 ∙ sym is.1)
 
-piece_written : (piece : List ℕ) (item : Item) → IsPiece piece item → IsWritten piece item
+piece_written : (piece : List ℕ) (item : Item) → IsWrittenItem piece item → IsItemWritten piece item
 piece_written piece (Entered e) is = inl is
 piece_written piece (Marked mark) is = inl is
 
 -- WHERE NOTHING BEGINS
-not_part : (bytes more : List ℕ) (item : Item) → Begins bytes item → is_part_front (bytes ++ more) ≡ true → ⊥
+not_part : (bytes more : List ℕ) (item : Item) → BeginsWithItem bytes item → is_part_front (bytes ++ more) ≡ true → ⊥
 not_part bytes more item b part =
     let q = item_quiet b.front item b.written in
     let shape : bytes ++ more ≡ codes "% tunes-book " ++ ((q.more ++ b.rest) ++ more) =
@@ -152,7 +153,7 @@ quiet_found Top bytes more (Some item) part stands = absurd (not_part bytes more
 quiet_found Start bytes more found part stands = stands
 quiet_found Within bytes more found part stands = stands
 
-quiet_log : (place : ItemPlace) (bytes more : List ℕ) (items : List Item) → Quiet place (bytes ++ more) → IsLog place bytes items → items ≡ []
+quiet_log : (place : ItemPlace) (bytes more : List ℕ) (items : List Item) → Quiet place (bytes ++ more) → IsItemLog place bytes items → items ≡ []
 quiet_log place [] more items quiet log = log
 quiet_log place (byte ∷ bytes) more items quiet log =
     let none = quiet_found place (byte ∷ bytes) more log.0 quiet.0 log.2 in
@@ -163,7 +164,7 @@ quiet_log place (byte ∷ bytes) more items quiet log =
 abbrev pub NotPart : List ℕ → Type 0
 NotPart ys = (zs rest : List ℕ) → zs ++ rest ≡ ys → is_part_front zs ≡ true → ⊥
 
-begins_more : (bytes more : List ℕ) (item : Item) → Begins bytes item → Begins (bytes ++ more) item
+begins_more : (bytes more : List ℕ) (item : Item) → BeginsWithItem bytes item → BeginsWithItem (bytes ++ more) item
 begins_more bytes more item b = record {
   front = b.front;
   rest = b.rest ++ more;
@@ -171,8 +172,8 @@ begins_more bytes more item b = record {
   written = b.written;
 }
 
-cut_begins : (byte : ℕ) (bytes ys : List ℕ) (item : Item) → place_after Top (byte ∷ bytes) ≡ Top → NotPart ys → Begins ((byte ∷ bytes) ++ ys) item
-    → Begins (byte ∷ bytes) item
+cut_begins : (byte : ℕ) (bytes ys : List ℕ) (item : Item) → place_after Top (byte ∷ bytes) ≡ Top → NotPart ys → BeginsWithItem ((byte ∷ bytes) ++ ys) item
+    → BeginsWithItem (byte ∷ bytes) item
 cut_begins byte bytes ys item top other b = elim (cases_lt (length (byte ∷ bytes)) (length b.front)) [
   | inl long ↦
       let bs : List ℕ = byte ∷ bytes in
@@ -212,14 +213,14 @@ stands_cut Within byte bytes ys found top other stands = stands
 pub record Split (place : ItemPlace) (xs ys : List ℕ) (items : List Item) : Type 0 where
   pub before : List Item
   pub later : List Item
-  pub front : IsLog place xs before
-  pub back : IsLog Top ys later
+  pub front : IsItemLog place xs before
+  pub back : IsItemLog Top ys later
   pub whole : items ≡ before ++ later
 
-log_split : (place : ItemPlace) (xs ys : List ℕ) (items : List Item) → place_after place xs ≡ Top → NotPart ys → IsLog place (xs ++ ys) items
+log_split : (place : ItemPlace) (xs ys : List ℕ) (items : List Item) → place_after place xs ≡ Top → NotPart ys → IsItemLog place (xs ++ ys) items
     → Split place xs ys items
 log_split place [] ys items top other log =
-    let P : ItemPlace → Type 0 = λ p. IsLog p ys items in
+    let P : ItemPlace → Type 0 = λ p. IsItemLog p ys items in
     record { before = []; later = items; front = refl; back = subst P top log; whole = refl }
 log_split place (byte ∷ bytes) ys items top other log =
     let more = log_split (next place byte) bytes ys log.1 top other log.3 in
@@ -238,7 +239,7 @@ IsOpen Top = ⊤
 IsOpen Start = ⊤
 IsOpen Within = ⊥
 
-fed : (place : ItemPlace) → IsOpen (after_feed place)
+fed : (place : ItemPlace) → IsOpen (place_after_feed place)
 fed Top = tt
 fed Start = tt
 fed Within = tt
@@ -288,19 +289,20 @@ standing-push steps [] item = refl
 standing-push steps (i ∷ before) item = standing-push (after_item steps i) before item
 
 -- what stands at the front of a piece
-whole_found : (piece : List ℕ) (item : Item) (found : Option Item) (later items : List Item) → IsPiece piece item → Stands Top piece found → later ≡ []
+whole_found : (piece : List ℕ) (item : Item) (found : Option Item) (later items : List Item) → IsWrittenItem piece item → Stands Top piece found → later ≡ []
     → items ≡ option_to_list found ++ later → items ≡ item ∷ []
 whole_found piece item None later items is stands none e =
     absurd (stands item (record { front = piece; rest = []; whole = append-nil piece; written = piece_written piece item is }))
 whole_found piece item (Some other) later items is stands none e =
     e ∙ ap (λ l. other ∷ l) none ∙ ap (λ i. i ∷ []) (piece_only piece item other stands.front stands.rest is stands.whole stands.written).0
 
-whole_log : (tail : List ℕ) (item : Item) (items : List Item) → IsPiece (37 ∷ tail) item → Quiet Within tail → IsLog Top (37 ∷ tail) items → items ≡ item ∷ []
+whole_log : (tail : List ℕ) (item : Item) (items : List Item) → IsWrittenItem (37 ∷ tail) item → Quiet Within tail → IsItemLog Top (37 ∷ tail) items → items
+    ≡ item ∷ []
 whole_log tail item items is quiet log =
     let none : log.1 ≡ [] = quiet_log Within tail [] log.1 (subst (Quiet Within) (sym (append-nil tail)) quiet) log.3 in
     whole_found (37 ∷ tail) item log.0 log.1 items is log.2 none log.4
 
-cut_found : (front more piece : List ℕ) (item : Item) (found : Option Item) → IsPiece piece item → front ++ more ≡ piece → 0 < length more
+cut_found : (front more piece : List ℕ) (item : Item) (found : Option Item) → IsWrittenItem piece item → front ++ more ≡ piece → 0 < length more
     → Stands Top front found → found ≡ None
 cut_found front more piece item None is whole some stands = refl
 cut_found front more piece item (Some other) is whole some stands =
@@ -308,39 +310,39 @@ cut_found front more piece item (Some other) is whole some stands =
     (sym (append_assoc stands.front stands.rest more) ∙ ap (λ t. t ++ more) stands.whole ∙ whole) stands.written).1 in
     absurd (omega (arith, ap length stands.whole, length-append stands.front stands.rest, ap length same, ap length whole, length-append front more))
 
-cut_log : (front more tail : List ℕ) (item : Item) (items : List Item) → IsPiece (37 ∷ tail) item → front ++ more ≡ 37 ∷ tail → 0 < length more
-    → Quiet Within tail → IsLog Top front items → items ≡ []
+cut_log : (front more tail : List ℕ) (item : Item) (items : List Item) → IsWrittenItem (37 ∷ tail) item → front ++ more ≡ 37 ∷ tail → 0 < length more
+    → Quiet Within tail → IsItemLog Top front items → items ≡ []
 cut_log [] more tail item items is whole some quiet log = log
 cut_log (byte ∷ bytes) more tail item items is whole some quiet log =
     let head : byte ≡ 37 = ap (λ t. slice_index t 0) whole in
     let rest : bytes ++ more ≡ tail = ap (drop 1) whole in
-    let P : ItemPlace → Type 0 = λ place. IsLog place bytes log.1 in
-    let inside : IsLog Within bytes log.1 = subst P (ap (λ c. next Top c) head) log.3 in
+    let P : ItemPlace → Type 0 = λ place. IsItemLog place bytes log.1 in
+    let inside : IsItemLog Within bytes log.1 = subst P (ap (λ c. next Top c) head) log.3 in
     let none : log.1 ≡ [] = quiet_log Within bytes more log.1 (subst (Quiet Within) (sym rest) quiet) inside in
     log.4 ∙ ap (λ o. option_to_list o ++ log.1) (cut_found (byte ∷ bytes) more (37 ∷ tail) item log.0 is whole some log.2) ∙ none
 
 -- LAWS
-pub adds_item : (book piece : List ℕ) (item : Item) → IsPiece piece item → AddsItem book piece item
+pub adds_item : (book piece : List ℕ) (item : Item) → IsWrittenItem piece item → AddsItem book piece item
 adds_item book piece item is items log =
     let q = item_quiet piece item (piece_written piece item is) in
     let other = piece_not_part piece [] q.more (append-nil piece ∙ q.whole) in
     let s = log_split Top (made_ready book) piece items (ready_top book) other log in
-    let back : IsLog Top (codes "% tunes-book " ++ q.more) s.later = subst (λ (t : List ℕ). IsLog Top t s.later) q.whole s.back in
-    let is_shaped : IsPiece (codes "% tunes-book " ++ q.more) item = subst (λ (t : List ℕ). IsPiece t item) q.whole is in
+    let back : IsItemLog Top (codes "% tunes-book " ++ q.more) s.later = subst (λ (t : List ℕ). IsItemLog Top t s.later) q.whole s.back in
+    let is_shaped : IsWrittenItem (codes "% tunes-book " ++ q.more) item = subst (λ (t : List ℕ). IsWrittenItem t item) q.whole is in
     let one : s.later ≡ item ∷ [] = whole_log (codes " tunes-book " ++ q.more) item s.later is_shaped q.quiet back in
     let whole : items ≡ s.before ++ item ∷ [] = s.whole ∙ ap (λ t. s.before ++ t) one in
     (s.before, s.front, whole, ap standing whole ∙ standing-push [] s.before item)
 
-pub adds_nothing : (book front more piece : List ℕ) (item : Item) → IsPiece piece item → front ++ more ≡ piece → more ≢ [] → AddsNothing book front
+pub adds_nothing : (book front more piece : List ℕ) (item : Item) → IsWrittenItem piece item → front ++ more ≡ piece → more ≢ [] → AddsNothing book front
 adds_nothing book front more piece item is same some items log =
     let q = item_quiet piece item (piece_written piece item is) in
     let shape : front ++ more ≡ codes "% tunes-book " ++ q.more = same ∙ q.whole in
     let other = piece_not_part front more q.more shape in
     let s = log_split Top (made_ready book) front items (ready_top book) other log in
-    let is_shaped : IsPiece (codes "% tunes-book " ++ q.more) item = subst (λ (t : List ℕ). IsPiece t item) q.whole is in
+    let is_shaped : IsWrittenItem (codes "% tunes-book " ++ q.more) item = subst (λ (t : List ℕ). IsWrittenItem t item) q.whole is in
     let none : s.later ≡ [] = cut_log front more (codes " tunes-book " ++ q.more) item s.later is_shaped shape (has_some more some) q.quiet s.back in
     let whole : s.before ≡ items = sym (s.whole ∙ ap (λ t. s.before ++ t) none ∙ append-nil s.before) in
-    subst (IsLog Top (made_ready book)) whole s.front
+    subst (IsItemLog Top (made_ready book)) whole s.front
   where
     has_some : (more : List ℕ) → more ≢ [] → 0 < length more
     has_some [] some = absurd (some refl)

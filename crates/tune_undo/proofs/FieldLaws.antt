@@ -13,7 +13,7 @@ use Rattle.std.proofs.lemmas.List.{drop_at}
 use Rattle.std.proofs.lemmas.Fmt.{decimal_is_IsNumeral}
 use Rattle.std.proofs.lemmas.Slice.Eq.{bytes_eq-Decides, starts_is}
 use Rattle.std.proofs.lemmas.Str.Parse.{digit_from_value}
-use Rattle.tune_undo.specs.Inside.ItemReading.{◌>>=◌, after, onto, field_at, number_of, number_at}
+use Rattle.tune_undo.specs.Inside.ItemReading.{◌>>=◌, bytes_after, onto, field_at, number_read, number_read_at}
 
 -- STEPS
 pub bind_some : {A B : Type 0} (o : Option A) (f : A → Option B) (y : B) → (o >>= f) ≡ Some y → (x : A) × (o ≡ Some x) × (f x ≡ Some y)
@@ -28,12 +28,12 @@ chosen true x y z e = inl (refl, e)
 chosen false x y z e = inr (refl, e)
 
 -- FRONTS
-pub after_takes : (front bytes rest : List ℕ) → after front bytes ≡ Some rest → bytes ≡ front ++ rest
+pub after_takes : (front bytes rest : List ℕ) → bytes_after front bytes ≡ Some rest → bytes ≡ front ++ rest
 after_takes front bytes rest e =
     let p = cond_some (starts_with nat_eq bytes front) (drop (length front) bytes) rest e in
     (starts_is Decides-eqb bytes front _ refl).0 p.0 ∙ ap (λ t. front ++ t) p.1
 
-pub after_again : (front rest : List ℕ) → after front (front ++ rest) ≡ Some rest
+pub after_again : (front rest : List ℕ) → bytes_after front (front ++ rest) ≡ Some rest
 after_again front rest =
     cond-true _ _ _ ((starts_is Decides-eqb (front ++ rest) front _ refl).1 rest refl) ∙ ap (λ t. Some t) (drop_at front rest (length front) refl)
 
@@ -106,13 +106,13 @@ digits_free end (digit ∷ digits) low are =
 pub decimal_free : (end n : ℕ) → end < 48 → n < 2 ^ 32 → Free end (decimal n)
 decimal_free end n low small = digits_free end (decimal n) low (decimal_is_IsNumeral n (omega arith)).0.1
 
-pub number_again : (n : ℕ) → n < 2 ^ 32 → number_of (decimal n) ≡ Some n
+pub number_again : (n : ℕ) → n < 2 ^ 32 → number_read (decimal n) ≡ Some n
 number_again n small =
     let value : digits_value 10 (decimal n) ≡ n = (decimal_is_IsNumeral n (omega arith)).1 in
     let P : ℕ → Type 0 = λ m. cond (nat_lt m (2 ^ 32) && bytes_eq (decimal m) (decimal n)) (Some m) None ≡ Some n in
     subst P (sym value) (cond-true _ _ _ (and_from _ _ (lt-ltb n (2 ^ 32) small) ((bytes_eq-Decides (decimal n) (decimal n)).1 refl)))
 
-pub number_takes : (word : List ℕ) (n : ℕ) → number_of word ≡ Some n → (n < 2 ^ 32) × (word ≡ decimal n)
+pub number_takes : (word : List ℕ) (n : ℕ) → number_read word ≡ Some n → (n < 2 ^ 32) × (word ≡ decimal n)
 number_takes word n e =
     let m = digits_value 10 word in
     let p = cond_some (nat_lt m (2 ^ 32) && bytes_eq (decimal m) word) m n e in
@@ -120,15 +120,15 @@ number_takes word n e =
     let P : ℕ → Type 0 = λ k. (k < 2 ^ 32) × (word ≡ decimal k) in
     subst P p.1 (ltb-true m (2 ^ 32) q.0, sym ((bytes_eq-Decides (decimal m) word).0 q.1))
 
-pub number_at_again : (end n : ℕ) (rest : List ℕ) → end < 48 → n < 2 ^ 32 → number_at end (decimal n ++ (end ∷ rest)) ≡ Some (n, rest)
+pub number_at_again : (end n : ℕ) (rest : List ℕ) → end < 48 → n < 2 ^ 32 → number_read_at end (decimal n ++ (end ∷ rest)) ≡ Some (n, rest)
 number_at_again end n rest low small =
     bind_is (field_at end (decimal n ++ (end ∷ rest))) _ (decimal n, rest) (field_again end (decimal n) rest (decimal_free end n low small))
-    ∙ bind_is (number_of (decimal n)) _ n (number_again n small)
+    ∙ bind_is (number_read (decimal n)) _ n (number_again n small)
 
-pub number_at_takes : (end : ℕ) (bytes : List ℕ) (r : ℕ × List ℕ) → number_at end bytes ≡ Some r → (r.0 < 2 ^ 32) × (bytes ≡ decimal r.0 ++ (end ∷ r.1))
+pub number_at_takes : (end : ℕ) (bytes : List ℕ) (r : ℕ × List ℕ) → number_read_at end bytes ≡ Some r → (r.0 < 2 ^ 32) × (bytes ≡ decimal r.0 ++ (end ∷ r.1))
 number_at_takes end bytes r e =
-    let f = bind_some (field_at end bytes) (λ field. number_of field.0 >>= λ number. Some (number, field.1)) r e in
-    let n = bind_some (number_of f.0.0) (λ number. Some (number, f.0.1)) r f.2 in
+    let f = bind_some (field_at end bytes) (λ field. number_read field.0 >>= λ number. Some (number, field.1)) r e in
+    let n = bind_some (number_read f.0.0) (λ number. Some (number, f.0.1)) r f.2 in
     let word = number_takes f.0.0 n.0 n.1 in
     let P : ℕ × List ℕ → Type 0 = λ s. (s.0 < 2 ^ 32) × (bytes ≡ decimal s.0 ++ (end ∷ s.1)) in
     subst P (same_Some _ _ n.2) (word.0, (field_takes end bytes f.0 f.1).0 ∙ ap (λ t. t ++ (end ∷ f.0.1)) word.1)

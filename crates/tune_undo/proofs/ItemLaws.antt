@@ -11,9 +11,9 @@ use Rattle.abc_fields.specs.Bytes.{line_feed}
 use Rattle.abc_fields.specs.Limits.{longest_tune}
 use Rattle.abc_fields.specs.Tunes.{IsTextWithin}
 use Rattle.std.proofs.lemmas.List.{take_at}
-use Rattle.tune_undo.specs.OldEntries.{EntryValue, IsPart}
+use Rattle.tune_undo.specs.OldEntries.{EntryValue, IsEntryPart}
 use Rattle.tune_undo.specs.EntryBytes.{IsEntry, entry_bytes, parts_bytes, book_tune}
-use Rattle.tune_undo.specs.OldItems.{OldEntry, IsOld, made_bytes, old_bytes, after_old, Item, Entered, Marked, Begins}
+use Rattle.tune_undo.specs.OldItems.{OldEntry, IsOld, made_bytes, old_bytes, after_old, Item, Entered, Marked, BeginsWithItem}
 use Rattle.tune_undo.specs.Inside.Found.{OldRead}
 use Rattle.tune_undo.specs.Inside.EntryLines.{first_line_at, number_line_at, old_line_at, mark_line_at, after_old_of, len_after, text_len_of}
 use Rattle.tune_undo.specs.declared.part_lines.OldLine.{OldLine}
@@ -55,7 +55,7 @@ entry_front e rest bytes line found is same read =
     }
 
 pub entry_whole : (bytes : List ℕ) (line : FirstLine) (found front back : List ℕ) (parts : List Part) → first_line_at bytes ≡ Some (line, found)
-    → found ≡ front ++ back → length front ≡ line.len → AllByRecursion IsPart parts → parts_bytes parts ≡ front → length parts ≡ line.parts
+    → found ≡ front ++ back → length front ≡ line.len → AllByRecursion IsEntryPart parts → parts_bytes parts ≡ front → length parts ≡ line.parts
     → let e : EntryValue = record { kind = line.kind; parts = parts } in IsEntry e × ((rest : List ℕ) × (entry_bytes e ++ rest ≡ bytes))
 entry_whole bytes line found front back parts read whole size are same count =
     let l = first_line_takes bytes (line, found) read in
@@ -169,13 +169,13 @@ old_whole bytes line found text later is len read made measured good size whole 
     }
 
 -- ITEMS
-pub entry_begins : (bytes : List ℕ) (e : EntryValue) (rest : List ℕ) → IsEntry e → entry_bytes e ++ rest ≡ bytes → Begins bytes (Entered e)
+pub entry_begins : (bytes : List ℕ) (e : EntryValue) (rest : List ℕ) → IsEntry e → entry_bytes e ++ rest ≡ bytes → BeginsWithItem bytes (Entered e)
 entry_begins bytes e rest is same = record { front = entry_bytes e; rest = rest; whole = same; written = inl (is, refl) }
 
-pub old_begins : (bytes : List ℕ) (e : EntryValue) → OldRead bytes e → Begins bytes (Entered e)
+pub old_begins : (bytes : List ℕ) (e : EntryValue) → OldRead bytes e → BeginsWithItem bytes (Entered e)
 old_begins bytes e read = record { front = old_bytes read.old; rest = read.rest; whole = read.whole; written = inr (read.old, read.good, refl, read.same) }
 
-pub mark_begins : (bytes : List ℕ) (r : Mark × List ℕ) → mark_line_at bytes ≡ Some r → Begins bytes (Marked r.0)
+pub mark_begins : (bytes : List ℕ) (r : Mark × List ℕ) → mark_line_at bytes ≡ Some r → BeginsWithItem bytes (Marked r.0)
 mark_begins bytes r e =
     let read = mark_line_takes bytes r e in
     record { front = read.front; rest = r.1; whole = read.whole; written = read.written }
@@ -183,7 +183,7 @@ mark_begins bytes r e =
 -- where none of these is read, nothing begins
 pub none_begins : (bytes : List ℕ) → ((e : EntryValue) (rest : List ℕ) → IsEntry e → entry_bytes e ++ rest ≡ bytes → ⊥)
     → ((old : OldEntry) (rest : List ℕ) → IsOld old → old_bytes old ++ rest ≡ bytes → ⊥) → mark_line_at bytes ≡ None
-    → (item : Item) → Begins bytes item → ⊥
+    → (item : Item) → BeginsWithItem bytes item → ⊥
 none_begins bytes entries olds marks (Entered e) begins = elim begins.written [
   | inl w ↦ entries e begins.rest w.0 (ap (λ t. t ++ begins.rest) (sym w.1) ∙ begins.whole)
   | inr w ↦ olds w.0 begins.rest w.1 (ap (λ t. t ++ begins.rest) (sym w.2) ∙ begins.whole)

@@ -12,7 +12,7 @@ use Rattle.tune_undo.specs.OldEntries.{EntryValue, IsAfter, AreNumbers}
 use Rattle.tune_undo.specs.EntryBytes.{after_word, length_word, kind_word, mark_word, IsMark, tune_line, numbers_bytes, list_bytes, set_line}
 use Rattle.tune_undo.specs.EntryBytes.{parts_bytes, entry_bytes, mark_bytes, book_tune}
 use Rattle.tune_undo.specs.OldItems.{OldEntry, made_bytes, old_bytes, IsMarkWritten}
-use Rattle.tune_undo.specs.Inside.ItemReading.{after, field_at, number_of, number_at, length_of, after_of, kind_of, mark_of}
+use Rattle.tune_undo.specs.Inside.ItemReading.{bytes_after, field_at, number_read, number_read_at, length_of, after_of_word, kind_read, mark_of}
 use Rattle.tune_undo.specs.Inside.EntryLines.{tune_line_at, number_line_at, set_line_at, first_line_at, mark_line_at, old_line_at, old_len_of, or_first}
 use Rattle.tune_undo.specs.Inside.EntryLines.{first_of_three}
 use Rattle.tune_undo.specs.declared.part_lines.TuneLine.{TuneLine}
@@ -98,12 +98,12 @@ tune_line_again number was is rest small len good =
     let end : List ℕ = after_word is ++ (line_feed ∷ rest) in
     let middle : List ℕ = length_word was ++ (space ∷ (codes "is " ++ end)) in
     ap tune_line_at (tune_line_parts number was is rest)
-    ∙ bind_is (number_at space (decimal number ++ (space ∷ (codes "was " ++ middle)))) _ (number, codes "was " ++ middle)
+    ∙ bind_is (number_read_at space (decimal number ++ (space ∷ (codes "was " ++ middle)))) _ (number, codes "was " ++ middle)
     (number_at_again space number (codes "was " ++ middle) (omega arith) small)
     ∙ bind_is (field_at space middle) _ (length_word was, codes "is " ++ end) (field_again space (length_word was) (codes "is " ++ end) (length_free was len))
     ∙ bind_is (length_of (length_word was)) _ was (length_again was len)
     ∙ bind_is (field_at line_feed end) _ (after_word is, rest) (field_again line_feed (after_word is) rest (after_free is good))
-    ∙ bind_is (after_of (after_word is)) _ is (after_word_again is good)
+    ∙ bind_is (after_of_word (after_word is)) _ is (after_word_again is good)
 
 -- the line that was read, and what it says
 pub record TuneLineRead (bytes : List ℕ) (line : TuneLine) (rest : List ℕ) : Type 0 where
@@ -114,14 +114,14 @@ pub record TuneLineRead (bytes : List ℕ) (line : TuneLine) (rest : List ℕ) :
 
 pub tune_line_takes : (bytes : List ℕ) (r : TuneLine × List ℕ) → tune_line_at bytes ≡ Some r → TuneLineRead bytes r.0 r.1
 tune_line_takes bytes r e =
-    let front = bind_some (after (codes "% tune ") bytes) _ r e in
-    let number = bind_some (number_at space front.0) _ r front.2 in
-    let was_word = bind_some (after (codes "was ") number.0.1) _ r number.2 in
+    let front = bind_some (bytes_after (codes "% tune ") bytes) _ r e in
+    let number = bind_some (number_read_at space front.0) _ r front.2 in
+    let was_word = bind_some (bytes_after (codes "was ") number.0.1) _ r number.2 in
     let was_field = bind_some (field_at space was_word.0) _ r was_word.2 in
     let was = bind_some (length_of was_field.0.0) _ r was_field.2 in
-    let is_word = bind_some (after (codes "is ") was_field.0.1) _ r was.2 in
+    let is_word = bind_some (bytes_after (codes "is ") was_field.0.1) _ r was.2 in
     let is_field = bind_some (field_at line_feed is_word.0) _ r is_word.2 in
-    let is = bind_some (after_of is_field.0.0) _ r is_field.2 in
+    let is = bind_some (after_of_word is_field.0.0) _ r is_field.2 in
     let n = number_at_takes space front.0 number.0 number.1 in
     let w = length_takes was_field.0.0 was.0 was.1 in
     let a = after_of_takes is_field.0.0 is.0 is.1 in
@@ -151,7 +151,7 @@ number_line_again number rest small = number_at_again line_feed number rest (ome
 pub number_line_takes : (bytes : List ℕ) (r : ℕ × List ℕ) → number_line_at bytes ≡ Some r
     → (r.0 < 2 ^ 32) × (codes "X:" ++ (decimal r.0 ++ (line_feed ∷ r.1)) ≡ bytes)
 number_line_takes bytes r e =
-    let front = bind_some (after (codes "X:") bytes) (λ t. number_at line_feed t) r e in
+    let front = bind_some (bytes_after (codes "X:") bytes) (λ t. number_read_at line_feed t) r e in
     let n = number_at_takes line_feed front.0 r front.2 in
     (n.0, sym (after_takes (codes "X:") bytes front.0 front.1 ∙ ap (λ t. codes "X:" ++ t) n.1))
 
@@ -171,15 +171,15 @@ set_line_again name word list rest good are =
     let end : List ℕ = list_bytes list ++ (line_feed ∷ rest) in
     ap (set_line_at word) (set_line_parts name word list rest)
     ∙ bind_is (field_at space (name ++ (space ∷ (word ++ end)))) _ (name, word ++ end) (field_again space name (word ++ end) (name_free name good))
-    ∙ bind_is (after word (word ++ end)) _ end (after_again word end)
+    ∙ bind_is (bytes_after word (word ++ end)) _ end (after_again word end)
     ∙ bind_is (field_at line_feed end) _ (list_bytes list, rest) (field_again line_feed (list_bytes list) rest (list_free list are))
 
 pub set_line_takes : (word bytes : List ℕ) (r : List ℕ × List ℕ × List ℕ) → set_line_at word bytes ≡ Some r
     → codes "% set " ++ (r.0 ++ (space ∷ (word ++ (r.1 ++ (line_feed ∷ r.2))))) ≡ bytes
 set_line_takes word bytes r e =
-    let front = bind_some (after (codes "% set ") bytes) _ r e in
+    let front = bind_some (bytes_after (codes "% set ") bytes) _ r e in
     let name = bind_some (field_at space front.0) _ r front.2 in
-    let rest = bind_some (after word name.0.1) _ r name.2 in
+    let rest = bind_some (bytes_after word name.0.1) _ r name.2 in
     let numbers = bind_some (field_at line_feed rest.0) _ r rest.2 in
     let P : List ℕ × List ℕ × List ℕ → Type 0 = λ s. codes "% set " ++ (s.0 ++ (space ∷ (word ++ (s.1 ++ (line_feed ∷ s.2))))) ≡ bytes in
     subst P (same_Some _ _ numbers.2) (sym (after_takes (codes "% set ") bytes front.0 front.1
@@ -199,9 +199,9 @@ first_line_again k parts len rest few short =
     let end : List ℕ = decimal len ++ (line_feed ∷ rest) in
     let middle : List ℕ = decimal parts ++ (space ∷ end) in
     bind_is (field_at space (kind_word k ++ (space ∷ middle))) _ (kind_word k, middle) (field_again space (kind_word k) middle (kind_free k))
-    ∙ bind_is (kind_of (kind_word k)) _ k (kind_again k)
-    ∙ bind_is (number_at space middle) _ (parts, end) (number_at_again space parts end (omega arith) few)
-    ∙ bind_is (number_at line_feed end) _ (len, rest) (number_at_again line_feed len rest (omega arith) short)
+    ∙ bind_is (kind_read (kind_word k)) _ k (kind_again k)
+    ∙ bind_is (number_read_at space middle) _ (parts, end) (number_at_again space parts end (omega arith) few)
+    ∙ bind_is (number_read_at line_feed end) _ (len, rest) (number_at_again line_feed len rest (omega arith) short)
 
 pub record FirstLineRead (bytes : List ℕ) (line : FirstLine) (rest : List ℕ) : Type 0 where
   pub whole : first_line line.kind line.parts line.len rest ≡ bytes
@@ -210,11 +210,11 @@ pub record FirstLineRead (bytes : List ℕ) (line : FirstLine) (rest : List ℕ)
 
 pub first_line_takes : (bytes : List ℕ) (r : FirstLine × List ℕ) → first_line_at bytes ≡ Some r → FirstLineRead bytes r.0 r.1
 first_line_takes bytes r e =
-    let front = bind_some (after (codes "% tunes-book ") bytes) _ r e in
+    let front = bind_some (bytes_after (codes "% tunes-book ") bytes) _ r e in
     let word = bind_some (field_at space front.0) _ r front.2 in
-    let k = bind_some (kind_of word.0.0) _ r word.2 in
-    let parts = bind_some (number_at space word.0.1) _ r k.2 in
-    let len = bind_some (number_at line_feed parts.0.1) _ r parts.2 in
+    let k = bind_some (kind_read word.0.0) _ r word.2 in
+    let parts = bind_some (number_read_at space word.0.1) _ r k.2 in
+    let len = bind_some (number_read_at line_feed parts.0.1) _ r parts.2 in
     let p = number_at_takes space word.0.1 parts.0 parts.1 in
     let l = number_at_takes line_feed parts.0.1 len.0 len.1 in
     let P : FirstLine × List ℕ → Type 0 = λ s. FirstLineRead bytes s.0 s.1 in
@@ -251,7 +251,7 @@ pub record MarkRead (bytes : List ℕ) (mark : Mark) (rest : List ℕ) : Type 0 
 
 pub mark_line_takes : (bytes : List ℕ) (r : Mark × List ℕ) → mark_line_at bytes ≡ Some r → MarkRead bytes r.0 r.1
 mark_line_takes bytes r e =
-    let front = bind_some (after (codes "% tunes-book ") bytes) _ r e in
+    let front = bind_some (bytes_after (codes "% tunes-book ") bytes) _ r e in
     let word = bind_some (field_at line_feed front.0) _ r front.2 in
     let mark = bind_some (mark_of word.0.0) _ r word.2 in
     let P : Mark × List ℕ → Type 0 = λ s. MarkRead bytes s.0 s.1 in
@@ -275,8 +275,8 @@ no_number : (o : Option ℕ) → ((n : ℕ) → o ≡ Some n → ⊥) → o ≡ 
 no_number None none = refl
 no_number (Some n) none = absurd (none n refl)
 
-number_spaced : (a b : List ℕ) → number_of (a ++ (space ∷ b)) ≡ None
-number_spaced a b = no_number (number_of (a ++ (space ∷ b))) (λ n e.
+number_spaced : (a b : List ℕ) → number_read (a ++ (space ∷ b)) ≡ None
+number_spaced a b = no_number (number_read (a ++ (space ∷ b))) (λ n e.
     let word = number_takes (a ++ (space ∷ b)) n e in
     free_mid a b (subst (Free space) (sym word.1) (decimal_free space n (omega arith) word.0)))
 
@@ -292,9 +292,9 @@ old_len_again len (Some made) short small =
     let rest : List ℕ = decimal made.0 ++ (space ∷ last) in
     let word : List ℕ = decimal len ++ (space ∷ rest) in
     ap (λ o. or_first o (first_of_three word)) (number_spaced (decimal len) rest)
-    ∙ (bind_is (number_at space word) _ (len, rest) (number_at_again space len rest (omega arith) short)
-    ∙ bind_is (number_at space rest) _ (made.0, last) (number_at_again space made.0 last (omega arith) small.0)
-    ∙ bind_is (number_of last) _ made.1 (number_again made.1 small.1))
+    ∙ (bind_is (number_read_at space word) _ (len, rest) (number_at_again space len rest (omega arith) short)
+    ∙ bind_is (number_read_at space rest) _ (made.0, last) (number_at_again space made.0 last (omega arith) small.0)
+    ∙ bind_is (number_read last) _ made.1 (number_again made.1 small.1))
 
 or_cases : (o other : Option ℕ) (len : ℕ) → or_first o other ≡ Some len → (o ≡ Some len) ⊎ (other ≡ Some len)
 or_cases None other len e = inr e
@@ -308,14 +308,14 @@ pub record LenRead (word : List ℕ) (len : ℕ) : Type 0 where
   pub whole : word ≡ decimal len ++ made_bytes made
 
 old_len_takes : (word : List ℕ) (len : ℕ) → old_len_of word ≡ Some len → LenRead word len
-old_len_takes word len e = elim (or_cases (number_of word) (first_of_three word) len e) [
+old_len_takes word len e = elim (or_cases (number_read word) (first_of_three word) len e) [
   | inl n ↦
       let number = number_takes word len n in
       record { made = None; small = tt; short = number.0; whole = number.1 ∙ sym (append-nil (decimal len)) }
   | inr t ↦
-      let first = bind_some (number_at space word) _ len t in
-      let sum = bind_some (number_at space first.0.1) _ len first.2 in
-      let size = bind_some (number_of sum.0.1) _ len sum.2 in
+      let first = bind_some (number_read_at space word) _ len t in
+      let sum = bind_some (number_read_at space first.0.1) _ len first.2 in
+      let size = bind_some (number_read sum.0.1) _ len sum.2 in
       let a = number_at_takes space word first.0 first.1 in
       let b = number_at_takes space first.0.1 sum.0 sum.1 in
       let c = number_takes sum.0.1 size.0 size.1 in
@@ -351,9 +351,9 @@ old_line_again k number revision len made rest small low short two =
     let middle : List ℕ = decimal revision ++ (space ∷ end) in
     let front : List ℕ = decimal number ++ (space ∷ middle) in
     bind_is (field_at space (kind_word k ++ (space ∷ front))) _ (kind_word k, front) (field_again space (kind_word k) front (kind_free k))
-    ∙ bind_is (kind_of (kind_word k)) _ k (kind_again k)
-    ∙ bind_is (number_at space front) _ (number, middle) (number_at_again space number middle (omega arith) small)
-    ∙ bind_is (number_at space middle) _ (revision, end) (number_at_again space revision end (omega arith) low)
+    ∙ bind_is (kind_read (kind_word k)) _ k (kind_again k)
+    ∙ bind_is (number_read_at space front) _ (number, middle) (number_at_again space number middle (omega arith) small)
+    ∙ bind_is (number_read_at space middle) _ (revision, end) (number_at_again space revision end (omega arith) low)
     ∙ bind_is (field_at line_feed end) _ (lens, rest) (field_again line_feed lens rest (made_free len made short two))
     ∙ bind_is (old_len_of lens) _ len (old_len_again len made short two)
 
@@ -365,11 +365,11 @@ pub record OldLineRead (bytes : List ℕ) (line : OldLine) (rest : List ℕ) : T
 
 pub old_line_takes : (bytes : List ℕ) (r : OldLine × List ℕ) → old_line_at bytes ≡ Some r → OldLineRead bytes r.0 r.1
 old_line_takes bytes r e =
-    let front = bind_some (after (codes "% tunes-book ") bytes) _ r e in
+    let front = bind_some (bytes_after (codes "% tunes-book ") bytes) _ r e in
     let word = bind_some (field_at space front.0) _ r front.2 in
-    let k = bind_some (kind_of word.0.0) _ r word.2 in
-    let number = bind_some (number_at space word.0.1) _ r k.2 in
-    let revision = bind_some (number_at space number.0.1) _ r number.2 in
+    let k = bind_some (kind_read word.0.0) _ r word.2 in
+    let number = bind_some (number_read_at space word.0.1) _ r k.2 in
+    let revision = bind_some (number_read_at space number.0.1) _ r number.2 in
     let lens = bind_some (field_at line_feed revision.0.1) _ r revision.2 in
     let len = bind_some (old_len_of lens.0.0) _ r lens.2 in
     let n = number_at_takes space word.0.1 number.0 number.1 in

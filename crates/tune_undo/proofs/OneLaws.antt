@@ -8,8 +8,8 @@ use Rattle.std.proofs.lemmas.List.{append_cancel_left}
 use Rattle.abc_fields.specs.Bytes.{space, line_feed}
 use Rattle.tune_undo.specs.OldEntries.{EntryValue}
 use Rattle.tune_undo.specs.EntryBytes.{kind_word, parts_bytes, book_tune, IsEntry, entry_bytes}
-use Rattle.tune_undo.specs.OldItems.{OldEntry, IsOld, made_bytes, old_bytes, after_old, entry_of_old, IsWritten, Item, Entered, Marked, ItemPlace}
-use Rattle.tune_undo.specs.OldItems.{Top, Start, Within, next, Stands, IsLog}
+use Rattle.tune_undo.specs.OldItems.{OldEntry, IsOld, made_bytes, old_bytes, after_old, entry_of_old, IsItemWritten, Item, Entered, Marked, ItemPlace}
+use Rattle.tune_undo.specs.OldItems.{Top, Start, Within, next, Stands, IsItemLog}
 use Rattle.tune_undo.specs.Inside.ItemReading.{◌>>=◌, field_at}
 use Rattle.tune_undo.specs.Inside.EntryLines.{mark_line_at}
 use Rattle.tune_undo.specs.declared.old_entries.Part.TheVariants.{Tune}
@@ -71,7 +71,7 @@ old_same old new x y is other same =
     split : (number : ℕ) (text : List ℕ) → (codes "X:" ++ (decimal number ++ (line_feed ∷ []))) ++ text ≡ book_tune number text
     split number text = simp append_assoc
 
-written_same : (a b : Item) (front other x y : List ℕ) → front ++ x ≡ other ++ y → IsWritten front a → IsWritten other b → a ≡ b
+written_same : (a b : Item) (front other x y : List ℕ) → front ++ x ≡ other ++ y → IsItemWritten front a → IsItemWritten other b → a ≡ b
 written_same (Entered e) (Entered f) front other x y same (inl w) (inl v) =
     ap (λ g. Entered g) (new_same e f x y w.0 v.0 (ap (λ t. t ++ x) (sym w.1) ∙ same ∙ ap (λ t. t ++ y) v.1))
 written_same (Entered e) (Entered f) front other x y same (inl w) (inr v) =
@@ -102,12 +102,12 @@ stands_same Top bytes (Some item) (Some other) s t =
 stands_same Start bytes a b s t = s ∙ sym t
 stands_same Within bytes a b s t = s ∙ sym t
 
-log_same : (place : ItemPlace) (bytes : List ℕ) (a b : List Item) → IsLog place bytes a → IsLog place bytes b → a ≡ b
+log_same : (place : ItemPlace) (bytes : List ℕ) (a b : List Item) → IsItemLog place bytes a → IsItemLog place bytes b → a ≡ b
 log_same place [] a b s t = s ∙ sym t
 log_same place (byte ∷ bytes) a b s t =
     let found = stands_same place (byte ∷ bytes) s.0 t.0 s.2 t.2 in
     let later = log_same (next place byte) bytes s.1 t.1 s.3 t.3 in
     s.4 ∙ (λ i. option_to_list (found i) ++ later i) ∙ sym t.4
 
-pub one_log : (book : List ℕ) (a b : List Item) → IsLog Top book a → IsLog Top book b → a ≡ b
+pub one_log : (book : List ℕ) (a b : List Item) → IsItemLog Top book a → IsItemLog Top book b → a ≡ b
 one_log book a b s t = log_same Top book a b s t

@@ -11,10 +11,10 @@ use Rattle.abc_fields.specs.Bytes.{space, line_feed}
 use Rattle.abc_fields.specs.Limits.{longest_tune}
 use Rattle.abc_fields.specs.Tunes.{IsTextWithin}
 use Rattle.tune_sets.specs.Names.{is_good_name}
-use Rattle.tune_undo.specs.OldEntries.{AreNumbers, IsPart}
+use Rattle.tune_undo.specs.OldEntries.{AreNumbers, IsEntryPart}
 use Rattle.tune_undo.specs.EntryBytes.{tune_line, book_tune, old_text, numbers_bytes, list_bytes, set_line, part_bytes, parts_bytes}
-use Rattle.tune_undo.specs.Inside.ItemReading.{after, number_of}
-use Rattle.tune_undo.specs.Inside.EntryLines.{tune_line_at, number_line_at, set_line_at, word_of, next_number}
+use Rattle.tune_undo.specs.Inside.ItemReading.{bytes_after, number_read}
+use Rattle.tune_undo.specs.Inside.EntryLines.{tune_line_at, number_line_at, set_line_at, word_before_space, next_number}
 use Rattle.tune_undo.specs.declared.part_lines.TuneLine.{TuneLine}
 use Rattle.tune_undo.specs.declared.old_entries.After.{After}
 use Rattle.tune_undo.specs.declared.old_entries.Part.{Part}
@@ -31,30 +31,31 @@ cut a b x y same e = (
 )
 
 -- NUMBERS
-pub word_again : (word rest : List ℕ) → Free space word → word_of rest ≡ [] → word_of (word ++ rest) ≡ word
+pub word_again : (word rest : List ℕ) → Free space word → word_before_space rest ≡ [] → word_before_space (word ++ rest) ≡ word
 word_again [] rest free ends = ends
 word_again (byte ∷ word) rest free ends =
     cond-false (byte == space) _ _ (ne_eqb byte space free.0) ∙ ap (λ t. byte ∷ t) (word_again word rest free.1 ends)
 
-pub numbers_end : (numbers : List ℕ) → word_of (numbers_bytes numbers) ≡ []
+pub numbers_end : (numbers : List ℕ) → word_before_space (numbers_bytes numbers) ≡ []
 numbers_end [] = refl
 numbers_end (number ∷ numbers) = refl
 
-pub next_again : (number : ℕ) (rest : List ℕ) → number < 2 ^ 32 → word_of rest ≡ [] → next_number ((codes " " ++ decimal number) ++ rest) ≡ Some (number, rest)
+pub next_again : (number : ℕ) (rest : List ℕ) → number < 2 ^ 32 → word_before_space rest ≡ [] → next_number ((codes " " ++ decimal number) ++ rest)
+    ≡ Some (number, rest)
 next_again number rest small ends =
     let word = word_again (decimal number) rest (decimal_free space number (omega arith) small) ends in
-    bind_is (number_of (word_of (decimal number ++ rest))) _ number (ap number_of word ∙ number_again number small)
+    bind_is (number_read (word_before_space (decimal number ++ rest))) _ number (ap number_read word ∙ number_again number small)
     ∙ ap (λ w. Some (number, drop (length w) (decimal number ++ rest))) word
     ∙ ap (λ t. Some (number, t)) (drop_at (decimal number) rest (length (decimal number)) refl)
 
 -- numbers of which some are read are these and more
-pub numbers_go : (so_far rest numbers : List ℕ) → AreNumbers so_far → AreNumbers numbers → word_of rest ≡ []
+pub numbers_go : (so_far rest numbers : List ℕ) → AreNumbers so_far → AreNumbers numbers → word_before_space rest ≡ []
     → numbers_bytes so_far ++ rest ≡ numbers_bytes numbers
     → (more : List ℕ) × AreNumbers more × (rest ≡ numbers_bytes more) × (numbers ≡ so_far ++ more)
 numbers_go [] rest numbers are others ends e = (numbers, others, e, refl)
 numbers_go (n ∷ so_far) rest [] are others ends e = absurd (let l = ap length e in omega arith)
 numbers_go (n ∷ so_far) rest (m ∷ numbers) are others ends e =
-    let ends_first : word_of (numbers_bytes so_far ++ rest) ≡ [] = ends_go so_far rest ends in
+    let ends_first : word_before_space (numbers_bytes so_far ++ rest) ≡ [] = ends_go so_far rest ends in
     let same : Some (n, numbers_bytes so_far ++ rest) ≡ Some (m, numbers_bytes numbers) =
     sym (next_again n (numbers_bytes so_far ++ rest) are.0 ends_first) ∙ ap next_number
     (sym (append_assoc (codes " " ++ decimal n) (numbers_bytes so_far) rest) ∙ e)
@@ -65,7 +66,7 @@ numbers_go (n ∷ so_far) rest (m ∷ numbers) are others ends e =
     let go = numbers_go so_far rest numbers are.1 others.1 ends tail in
     (go.0, go.1, go.2, (λ i. head i ∷ go.3 i))
   where
-    ends_go : (so_far rest : List ℕ) → word_of rest ≡ [] → word_of (numbers_bytes so_far ++ rest) ≡ []
+    ends_go : (so_far rest : List ℕ) → word_before_space rest ≡ [] → word_before_space (numbers_bytes so_far ++ rest) ≡ []
     ends_go [] rest ends = ends
     ends_go (n ∷ so_far) rest ends = refl
 
@@ -80,14 +81,14 @@ are-append (y ∷ xs) x are small = (are.0, are-append xs x are.1 small)
 
 -- where a search for a space stops
 pub word_first : (bytes : List ℕ) (i : ℕ) → i < length bytes → (slice_index bytes i == space) ≡ true
-    → ((k : ℕ) → 0 ≤ k → k < i → (slice_index bytes k == space) ≡ true → ⊥) → word_of bytes ≡ take i bytes
+    → ((k : ℕ) → 0 ≤ k → k < i → (slice_index bytes k == space) ≡ true → ⊥) → word_before_space bytes ≡ take i bytes
 word_first [] i l p none = absurd (omega arith)
 word_first (byte ∷ bytes) zero l p none = cond-true (byte == space) _ _ p
 word_first (byte ∷ bytes) (suc i) l p none =
     let no : (byte == space) ≡ false = false_from_ne_true _ (none 0 (omega arith) (omega arith)) in
     cond-false (byte == space) _ _ no ∙ ap (λ t. byte ∷ t) (word_first bytes i (omega arith) p (λ k low high. none (suc k) (omega arith) (omega arith)))
 
-pub word_absent : (bytes : List ℕ) → ((k : ℕ) → 0 ≤ k → k < length bytes → (slice_index bytes k == space) ≡ true → ⊥) → word_of bytes ≡ bytes
+pub word_absent : (bytes : List ℕ) → ((k : ℕ) → 0 ≤ k → k < length bytes → (slice_index bytes k == space) ≡ true → ⊥) → word_before_space bytes ≡ bytes
 word_absent [] none = refl
 word_absent (byte ∷ bytes) none =
     let no : (byte == space) ≡ false = false_from_ne_true _ (none 0 (omega arith) (omega arith)) in
@@ -97,36 +98,38 @@ word_absent (byte ∷ bytes) none =
 pub record NextRead (bytes : List ℕ) (number : ℕ) (rest : List ℕ) : Type 0 where
   pub whole : (codes " " ++ decimal number) ++ rest ≡ bytes
   pub small : number < 2 ^ 32
-  pub ends : word_of rest ≡ []
+  pub ends : word_before_space rest ≡ []
 
-word_split : (bytes : List ℕ) → (word_of bytes ++ drop (length (word_of bytes)) bytes ≡ bytes) × (word_of (drop (length (word_of bytes)) bytes) ≡ [])
+word_split : (bytes : List ℕ) → (word_before_space bytes ++ drop (length (word_before_space bytes)) bytes ≡ bytes)
+    × (word_before_space (drop (length (word_before_space bytes)) bytes) ≡ [])
 word_split [] = (refl, refl)
 word_split (byte ∷ bytes) = elim (cases_Bool (byte == space)) [
   | inl y ↦
-      let none : word_of (byte ∷ bytes) ≡ [] = cond-true (byte == space) _ _ y in
-      let P : List ℕ → Type 0 = λ w. (w ++ drop (length w) (byte ∷ bytes) ≡ byte ∷ bytes) × (word_of (drop (length w) (byte ∷ bytes)) ≡ []) in
+      let none : word_before_space (byte ∷ bytes) ≡ [] = cond-true (byte == space) _ _ y in
+      let P : List ℕ → Type 0 = λ w. (w ++ drop (length w) (byte ∷ bytes) ≡ byte ∷ bytes) × (word_before_space (drop (length w) (byte ∷ bytes)) ≡ []) in
       subst P (sym none) (refl, none)
   | inr n ↦
-      let some : word_of (byte ∷ bytes) ≡ byte ∷ word_of bytes = cond-false (byte == space) _ _ n in
+      let some : word_before_space (byte ∷ bytes) ≡ byte ∷ word_before_space bytes = cond-false (byte == space) _ _ n in
       let more = word_split bytes in
-      let P : List ℕ → Type 0 = λ w. (w ++ drop (length w) (byte ∷ bytes) ≡ byte ∷ bytes) × (word_of (drop (length w) (byte ∷ bytes)) ≡ []) in
+      let P : List ℕ → Type 0 = λ w. (w ++ drop (length w) (byte ∷ bytes) ≡ byte ∷ bytes) × (word_before_space (drop (length w) (byte ∷ bytes)) ≡ []) in
       subst P (sym some) (ap (λ t. byte ∷ t) more.0, more.1)
 ]
 
-pub word_front : (bytes : List ℕ) → take (length (word_of bytes)) bytes ≡ word_of bytes
+pub word_front : (bytes : List ℕ) → take (length (word_before_space bytes)) bytes ≡ word_before_space bytes
 word_front bytes =
     let parts = word_split bytes in
-    ap (take (length (word_of bytes))) (sym parts.0) ∙ take_at (word_of bytes) (drop (length (word_of bytes)) bytes) (length (word_of bytes)) refl
+    ap (take (length (word_before_space bytes))) (sym parts.0)
+    ∙ take_at (word_before_space bytes) (drop (length (word_before_space bytes)) bytes) (length (word_before_space bytes)) refl
 
 pub next_takes : (bytes : List ℕ) (r : ℕ × List ℕ) → next_number bytes ≡ Some r → NextRead bytes r.0 r.1
 next_takes bytes r e =
-    let front = bind_some (after (codes " ") bytes) _ r e in
-    let n = bind_some (number_of (word_of front.0)) _ r front.2 in
-    let number = number_takes (word_of front.0) n.0 n.1 in
+    let front = bind_some (bytes_after (codes " ") bytes) _ r e in
+    let n = bind_some (number_read (word_before_space front.0)) _ r front.2 in
+    let number = number_takes (word_before_space front.0) n.0 n.1 in
     let parts = word_split front.0 in
     let P : ℕ × List ℕ → Type 0 = λ s. NextRead bytes s.0 s.1 in
     subst P (same_Some _ _ n.2) (record {
-      whole = ap (λ w. codes " " ++ (w ++ drop (length (word_of front.0)) front.0)) (sym number.1) ∙ ap (λ t. codes " " ++ t) parts.0
+      whole = ap (λ w. codes " " ++ (w ++ drop (length (word_before_space front.0)) front.0)) (sym number.1) ∙ ap (λ t. codes " " ++ t) parts.0
           ∙ sym (after_takes (codes " ") bytes front.0 front.1);
       small = number.0;
       ends = parts.1;
@@ -140,7 +143,7 @@ numbers_more numbers n rest later bytes same read =
     ∙ append_assoc (numbers_bytes numbers) (codes " " ++ decimal n) later ∙ ap (λ t. numbers_bytes numbers ++ t) read ∙ same
 
 -- where no number is read, these are no numbers
-pub numbers_stop : (so_far rest numbers bytes : List ℕ) → AreNumbers so_far → word_of rest ≡ [] → numbers_bytes so_far ++ rest ≡ bytes
+pub numbers_stop : (so_far rest numbers bytes : List ℕ) → AreNumbers so_far → word_before_space rest ≡ [] → numbers_bytes so_far ++ rest ≡ bytes
     → 0 < length rest → next_number rest ≡ None → AreNumbers numbers → numbers_bytes numbers ≡ bytes → ⊥
 numbers_stop so_far rest numbers bytes are ends same some none others e =
     let go = numbers_go so_far rest numbers are others ends (same ∙ sym e) in
@@ -164,7 +167,7 @@ numbers_same xs ys are others e =
 pub not_numbers : (numbers : List ℕ) → AreNumbers numbers → codes " none" ≡ numbers_bytes numbers → ⊥
 not_numbers [] are e = let l = ap length e in omega arith
 not_numbers (n ∷ numbers) are e =
-    let word : codes "none" ≡ decimal n = ap (λ t. word_of (drop 1 t)) e
+    let word : codes "none" ≡ decimal n = ap (λ t. word_before_space (drop 1 t)) e
     ∙ word_again (decimal n) (numbers_bytes numbers) (decimal_free space n (omega arith) are.0) (numbers_end numbers) in
     decimal_not_none n are.0 (sym word)
 
@@ -204,7 +207,7 @@ len_small None is = tt
 len_small (Some text) is = omega (arith, is.fits)
 
 -- a tune at the front of bytes is read
-pub tune_again : (number : ℕ) (was : Option (List ℕ)) (is : After) (later bytes : List ℕ) → IsPart (Tune number was is)
+pub tune_again : (number : ℕ) (was : Option (List ℕ)) (is : After) (later bytes : List ℕ) → IsEntryPart (Tune number was is)
     → part_bytes (Tune number was is) ++ later ≡ bytes
     → tune_line_at bytes ≡ Some (record { number = number; was = option_map length was; is = is }, old_text number was ++ later)
 tune_again number was is later bytes part e =
@@ -225,7 +228,7 @@ text_after number len (Some text) rest later good size e =
     record { text = text; good = good; size = same_Some _ _ size; whole = sym (append_assoc (book_tune number text) (codes "\n") later) ∙ e }
 
 pub tune_front : (number : ℕ) (was : Option (List ℕ)) (is : After) (later bytes rest : List ℕ) (line : TuneLine) (len : ℕ)
-    → IsPart (Tune number was is) → part_bytes (Tune number was is) ++ later ≡ bytes → tune_line_at bytes ≡ Some (line, rest) → line.was ≡ Some len
+    → IsEntryPart (Tune number was is) → part_bytes (Tune number was is) ++ later ≡ bytes → tune_line_at bytes ≡ Some (line, rest) → line.was ≡ Some len
     → TextAfter line.number len rest later
 tune_front number was is later bytes rest line len part e read size =
     let both = same_Some _ _ (sym (tune_again number was is later bytes part e) ∙ read) in
@@ -236,11 +239,11 @@ tune_front number was is later bytes rest line len part e read size =
 
 -- a text and the empty line after it
 pub text_ends : (number len : ℕ) (text rest found later : List ℕ) → length text ≡ len → book_tune number text ++ found ≡ rest
-    → TextAfter number len rest later → after (codes "\n") found ≡ Some later
+    → TextAfter number len rest later → bytes_after (codes "\n") found ≡ Some later
 text_ends number len text rest found later size e front =
     let long : length (book_tune number text) ≡ length (book_tune number front.text) =
     omega (arith, length-append (decimal number) (line_feed ∷ text), length-append (decimal number) (line_feed ∷ front.text), size, front.size) in
-    ap (after (codes "\n")) (cut (book_tune number text) (book_tune number front.text) found (codes "\n" ++ later) long (e ∙ sym front.whole)).1
+    ap (bytes_after (codes "\n")) (cut (book_tune number text) (book_tune number front.text) found (codes "\n" ++ later) long (e ∙ sym front.whole)).1
 
 pub tune_none_whole : (number : ℕ) (was : Option ℕ) (is : After) (rest bytes : List ℕ) → tune_line number was is ++ rest ≡ bytes → was ≡ None
     → part_bytes (Tune number None is) ++ rest ≡ bytes
@@ -248,7 +251,7 @@ tune_none_whole number was is rest bytes e none =
     append_assoc (tune_line number None is) [] rest ∙ ap (λ w. tune_line number w is ++ rest) (sym none) ∙ e
 
 pub tune_whole : (number len : ℕ) (was : Option ℕ) (is : After) (text rest found later bytes : List ℕ) → tune_line number was is ++ rest ≡ bytes
-    → was ≡ Some len → length text ≡ len → book_tune number text ++ found ≡ rest → after (codes "\n") found ≡ Some later
+    → was ≡ Some len → length text ≡ len → book_tune number text ++ found ≡ rest → bytes_after (codes "\n") found ≡ Some later
     → part_bytes (Tune number (Some text) is) ++ later ≡ bytes
 tune_whole number len was is text rest found later bytes e some size whole ends =
     append_assoc (tune_line number (Some (length text)) is) (book_tune number text ++ codes "\n") later
@@ -285,7 +288,7 @@ pub set_parts : (name : List ℕ) (was is : Option (List ℕ)) (later : List ℕ
 set_parts name was is later = append_assoc (set_line name (codes " was") was) (set_line name (codes " is") is) later
 
 -- what follows the first line of a set list
-pub set_second : (name given : List ℕ) (was is found : Option (List ℕ)) (later rest bytes : List ℕ) → IsPart (Set name was is)
+pub set_second : (name given : List ℕ) (was is found : Option (List ℕ)) (later rest bytes : List ℕ) → IsEntryPart (Set name was is)
     → part_bytes (Set name was is) ++ later ≡ bytes → is_good_name given ≡ true → IfSome found AreNumbers
     → set_line given (codes " was") found ++ rest ≡ bytes → (name ≡ given) × (set_line name (codes " is") is ++ later ≡ rest)
 set_second name given was is found later rest bytes part e good are read =
@@ -306,7 +309,8 @@ old_split : (number : ℕ) (text rest : List ℕ) → old_text number (Some text
 old_split number text rest = simp append_assoc
 
 -- a part at the front of bytes is the only one
-tune_same : (number other : ℕ) (was found : Option (List ℕ)) (is given : After) (x y : List ℕ) → IsPart (Tune number was is) → IsPart (Tune other found given)
+tune_same : (number other : ℕ) (was found : Option (List ℕ)) (is given : After) (x y : List ℕ) → IsEntryPart (Tune number was is)
+    → IsEntryPart (Tune other found given)
     → part_bytes (Tune number was is) ++ x ≡ part_bytes (Tune other found given) ++ y → (Tune number was is ≡ Tune other found given) × (x ≡ y)
 tune_same number other was found is given x y part fine e =
     let both = same_Some _ _ (sym (tune_again number was is x _ part e) ∙ tune_again other found given y _ fine refl) in
@@ -329,7 +333,7 @@ tune_same number other was found is given x y part fine e =
         let parts = cut text other (line_feed ∷ x) (line_feed ∷ y) same_size tails in
         (ap (λ t. Some t) parts.0, ap (drop 1) parts.1)
 
-set_same : (name other : List ℕ) (was found is given : Option (List ℕ)) (x y : List ℕ) → IsPart (Set name was is) → IsPart (Set other found given)
+set_same : (name other : List ℕ) (was found is given : Option (List ℕ)) (x y : List ℕ) → IsEntryPart (Set name was is) → IsEntryPart (Set other found given)
     → part_bytes (Set name was is) ++ x ≡ part_bytes (Set other found given) ++ y → (Set name was is ≡ Set other found given) × (x ≡ y)
 set_same name other was found is given x y part fine e =
     let first = set_line_same name other (codes "was") was found _ _ part.0 fine.0 part.1.0 fine.1.0
@@ -337,17 +341,17 @@ set_same name other was found is given x y part fine e =
     let second = set_line_same name other (codes "is") is given x y part.0 fine.0 part.1.1 fine.1.1 first.2 in
     ((λ i. Set (first.0 i) (first.1 i) (second.1 i)), second.2)
 
-pub part_same : (p q : Part) (x y : List ℕ) → IsPart p → IsPart q → part_bytes p ++ x ≡ part_bytes q ++ y → (p ≡ q) × (x ≡ y)
+pub part_same : (p q : Part) (x y : List ℕ) → IsEntryPart p → IsEntryPart q → part_bytes p ++ x ≡ part_bytes q ++ y → (p ≡ q) × (x ≡ y)
 part_same (Tune number was is) (Tune other found given) x y part fine e = tune_same number other was found is given x y part fine e
 part_same (Set name was is) (Set other found given) x y part fine e = set_same name other was found is given x y part fine e
 part_same (Tune number was is) (Set other found given) x y part fine e = absurd (let third : 116 ≡ 115 = ap (λ t. slice_index t 2) e in omega arith)
 part_same (Set name was is) (Tune other found given) x y part fine e = absurd (let third : 115 ≡ 116 = ap (λ t. slice_index t 2) e in omega arith)
 
 -- where neither a tune nor a set list is read, no part is
-pub part_none : (bytes : List ℕ) → ((number : ℕ) (was : Option (List ℕ)) (is : After) (later : List ℕ) → IsPart (Tune number was is)
+pub part_none : (bytes : List ℕ) → ((number : ℕ) (was : Option (List ℕ)) (is : After) (later : List ℕ) → IsEntryPart (Tune number was is)
     → part_bytes (Tune number was is) ++ later ≡ bytes → ⊥)
-    → ((name : List ℕ) (was is : Option (List ℕ)) (later : List ℕ) → IsPart (Set name was is) → part_bytes (Set name was is) ++ later ≡ bytes → ⊥)
-    → (p : Part) (later : List ℕ) → IsPart p → part_bytes p ++ later ≡ bytes → ⊥
+    → ((name : List ℕ) (was is : Option (List ℕ)) (later : List ℕ) → IsEntryPart (Set name was is) → part_bytes (Set name was is) ++ later ≡ bytes → ⊥)
+    → (p : Part) (later : List ℕ) → IsEntryPart p → part_bytes p ++ later ≡ bytes → ⊥
 part_none bytes tunes sets (Tune number was is) later part e = tunes number was is later part e
 part_none bytes tunes sets (Set name was is) later part e = sets name was is later part e
 
@@ -359,7 +363,7 @@ pub parts-append : (ps qs : List Part) → parts_bytes (ps ++ qs) ≡ parts_byte
 parts-append [] qs = refl
 parts-append (p ∷ ps) qs = ap (λ t. part_bytes p ++ t) (parts-append ps qs) ∙ sym (append_assoc (part_bytes p) (parts_bytes ps) (parts_bytes qs))
 
-pub are_parts-append : (ps : List Part) (p : Part) → AllByRecursion IsPart ps → IsPart p → AllByRecursion IsPart (ps ++ p ∷ [])
+pub are_parts-append : (ps : List Part) (p : Part) → AllByRecursion IsEntryPart ps → IsEntryPart p → AllByRecursion IsEntryPart (ps ++ p ∷ [])
 are_parts-append [] p are part = (part, tt)
 are_parts-append (q ∷ ps) p are part = (are.0, are_parts-append ps p are.1 part)
 
@@ -375,9 +379,9 @@ parts_more parts p rest later bytes same read =
     ∙ append_assoc (parts_bytes parts) (part_bytes p) later ∙ ap (λ t. parts_bytes parts ++ t) read ∙ same
 
 -- parts of which some are read are these and more
-pub parts_go : (so_far : List Part) (rest : List ℕ) (parts : List Part) → AllByRecursion IsPart so_far → AllByRecursion IsPart parts
+pub parts_go : (so_far : List Part) (rest : List ℕ) (parts : List Part) → AllByRecursion IsEntryPart so_far → AllByRecursion IsEntryPart parts
     → parts_bytes so_far ++ rest ≡ parts_bytes parts
-    → (more : List Part) × AllByRecursion IsPart more × (rest ≡ parts_bytes more) × (parts ≡ so_far ++ more)
+    → (more : List Part) × AllByRecursion IsEntryPart more × (rest ≡ parts_bytes more) × (parts ≡ so_far ++ more)
 parts_go [] rest parts are others e = (parts, others, e, refl)
 parts_go (p ∷ so_far) rest [] are others e =
     absurd (let some = part_some p (parts_bytes so_far ++ rest) in
@@ -388,20 +392,20 @@ parts_go (p ∷ so_far) rest (q ∷ parts) are others e =
     let go = parts_go so_far rest parts are.1 others.1 same.1 in
     (go.0, go.1, go.2, (let head : q ≡ p = sym same.0 in λ i. head i ∷ go.3 i))
 
-pub parts_stop : (so_far : List Part) (rest : List ℕ) (parts : List Part) (bytes : List ℕ) → AllByRecursion IsPart so_far
-    → parts_bytes so_far ++ rest ≡ bytes → 0 < length rest → ((p : Part) (later : List ℕ) → IsPart p → part_bytes p ++ later ≡ rest → ⊥)
-    → AllByRecursion IsPart parts → parts_bytes parts ≡ bytes → ⊥
+pub parts_stop : (so_far : List Part) (rest : List ℕ) (parts : List Part) (bytes : List ℕ) → AllByRecursion IsEntryPart so_far
+    → parts_bytes so_far ++ rest ≡ bytes → 0 < length rest → ((p : Part) (later : List ℕ) → IsEntryPart p → part_bytes p ++ later ≡ rest → ⊥)
+    → AllByRecursion IsEntryPart parts → parts_bytes parts ≡ bytes → ⊥
 parts_stop so_far rest parts bytes are same some none others e =
     let go = parts_go so_far rest parts are others (same ∙ sym e) in
     stop go.0 rest go.1 go.2 some none
   where
-    stop : (more : List Part) (rest : List ℕ) → AllByRecursion IsPart more → rest ≡ parts_bytes more → 0 < length rest
-        → ((p : Part) (later : List ℕ) → IsPart p → part_bytes p ++ later ≡ rest → ⊥) → ⊥
+    stop : (more : List Part) (rest : List ℕ) → AllByRecursion IsEntryPart more → rest ≡ parts_bytes more → 0 < length rest
+        → ((p : Part) (later : List ℕ) → IsEntryPart p → part_bytes p ++ later ≡ rest → ⊥) → ⊥
     stop [] rest are e some none = let l = ap length e in omega arith
     stop (p ∷ more) rest are e some none = none p (parts_bytes more) are.0 (sym e)
 
 -- the bytes of parts tell the parts
-pub parts_same : (ps qs : List Part) → AllByRecursion IsPart ps → AllByRecursion IsPart qs → parts_bytes ps ≡ parts_bytes qs → ps ≡ qs
+pub parts_same : (ps qs : List Part) → AllByRecursion IsEntryPart ps → AllByRecursion IsEntryPart qs → parts_bytes ps ≡ parts_bytes qs → ps ≡ qs
 parts_same ps qs are others e =
     let go = parts_go ps [] qs are others (append-nil (parts_bytes ps) ∙ e) in
     sym (go.3 ∙ ap (λ t. ps ++ t) (none_left go.0 go.2) ∙ append-nil ps)

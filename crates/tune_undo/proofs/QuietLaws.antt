@@ -10,10 +10,10 @@ use Rattle.abc_fields.specs.Limits.{longest_tune}
 use Rattle.abc_fields.specs.Lines.{ends_line, has_no_ending}
 use Rattle.abc_fields.specs.Tunes.{IsTuneLine, IsTextWithin, joined}
 use Rattle.tune_sets.specs.Names.{is_name_byte, is_good_name}
-use Rattle.tune_undo.specs.OldEntries.{EntryValue, IsPart, IsAfter, AreNumbers}
+use Rattle.tune_undo.specs.OldEntries.{EntryValue, IsEntryPart, IsAfter, AreNumbers}
 use Rattle.tune_undo.specs.EntryBytes.{after_word, length_word, kind_word, mark_word, IsMark, tune_line, book_tune, old_text, list_bytes, set_line}
 use Rattle.tune_undo.specs.EntryBytes.{part_bytes, parts_bytes, IsEntry, entry_bytes, mark_bytes}
-use Rattle.tune_undo.specs.OldItems.{OldEntry, IsOld, made_bytes, old_bytes, IsWritten, Item, Entered, Marked, ItemPlace, Top, Start, Within, next}
+use Rattle.tune_undo.specs.OldItems.{OldEntry, IsOld, made_bytes, old_bytes, IsItemWritten, Item, Entered, Marked, ItemPlace, Top, Start, Within, next}
 use Rattle.tune_undo.specs.declared.old_entries.EntryKind.{EntryKind}
 use Rattle.tune_undo.specs.declared.old_entries.EntryKind.TheVariants as kind
 use Rattle.tune_undo.specs.declared.old_entries.After.{After}
@@ -158,7 +158,7 @@ old_text_quiet number (Some text) ys small good quiet =
     subst (Quiet Start) (sym (append_assoc (book_tune number text) (codes "\n") ys))
     (tune_quiet number text (codes "\n" ++ ys) small good ((λ e. absurd (start_low e)), quiet.0))
 
-part_quiet : (p : Part) (ys : List ℕ) → IsPart p → QuietTop ys → QuietTop (part_bytes p ++ ys)
+part_quiet : (p : Part) (ys : List ℕ) → IsEntryPart p → QuietTop ys → QuietTop (part_bytes p ++ ys)
 part_quiet (Tune number was is) ys part quiet =
     subst QuietTop (sym (append_assoc (tune_line number (option_map length was) is) (old_text number was) ys))
     (tune_line_quiet number (option_map length was) is (old_text number was ++ ys) part.0 (len_small was part.1.0) part.1.1
@@ -168,7 +168,7 @@ part_quiet (Set name was is) ys part quiet =
     (set_line_quiet name (codes "was") was (set_line name (codes " is") is ++ ys) part.0 (free_test line_feed (codes "was") refl) part.1.0
     (set_line_quiet name (codes "is") is ys part.0 (free_test line_feed (codes "is") refl) part.1.1 quiet.1).1)
 
-parts_quiet : (ps : List Part) → AllByRecursion IsPart ps → QuietTop (parts_bytes ps)
+parts_quiet : (ps : List Part) → AllByRecursion IsEntryPart ps → QuietTop (parts_bytes ps)
 parts_quiet [] are = (tt, tt)
 parts_quiet (p ∷ ps) are = part_quiet p (parts_bytes ps) are.0 (parts_quiet ps are.1)
 
@@ -221,7 +221,7 @@ old_quiet old is =
     subst QuietItem (sym (sym (append-nil (old_bytes old)) ∙ old_parts old []
     ∙ ap (λ t. old_line old.kind old.number old.revision lens t) (append-nil tune))) (item_from _ all)
 
-pub item_quiet : (front : List ℕ) (item : Item) → IsWritten front item → QuietItem front
+pub item_quiet : (front : List ℕ) (item : Item) → IsItemWritten front item → QuietItem front
 item_quiet front (Entered e) (inl w) = subst QuietItem (sym w.1) (entry_quiet e w.0)
 item_quiet front (Entered e) (inr w) = subst QuietItem (sym w.2) (old_quiet w.0 w.1)
 item_quiet front (Marked mark) (inl w) = subst QuietItem (sym w.1) (mark_quiet mark w.0)

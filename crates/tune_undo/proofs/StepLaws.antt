@@ -7,7 +7,7 @@ use Rattle.std.proofs.lemmas.Bool.{ne_eqb, cond-true, cond-false, false_from_ne_
 use Rattle.std.proofs.lemmas.List.{map_push, take-map, length-map, nil_from_length}
 use Rattle.abc_fields.specs.Bytes.{line_feed}
 use Rattle.tune_undo.specs.OldEntries.{StepValue, step_value}
-use Rattle.tune_undo.specs.OldItems.{Item, ItemPlace, Top, Start, Within, after_feed, next, Stands, IsLog, without_last, begun_last, standing_after}
+use Rattle.tune_undo.specs.OldItems.{Item, ItemPlace, Top, Start, Within, place_after_feed, next, Stands, IsItemLog, without_last, begun_last, standing_after}
 use Rattle.tune_undo.specs.Inside.Found.{place_of, IsLaterLog, after_found}
 use Rattle.tune_undo.specs.declared.old_entries.Step.{Step}
 
@@ -50,10 +50,10 @@ begun_none old new greatest same none =
 
 -- LINES
 -- within a line nothing begins
-within_log : (byte : ℕ) (bytes : List ℕ) (items : List Item) → IsLog (next Within byte) bytes items → IsLog Within (byte ∷ bytes) items
+within_log : (byte : ℕ) (bytes : List ℕ) (items : List Item) → IsItemLog (next Within byte) bytes items → IsItemLog Within (byte ∷ bytes) items
 within_log byte bytes items log = (None, items, refl, log, refl)
 
-feed_next : (place : ItemPlace) (byte : ℕ) → (byte == line_feed) ≡ true → next place byte ≡ after_feed place
+feed_next : (place : ItemPlace) (byte : ℕ) → (byte == line_feed) ≡ true → next place byte ≡ place_after_feed place
 feed_next place byte is = cond-true (byte == line_feed) _ _ is
 
 other_next : (place : ItemPlace) (byte : ℕ) → (byte == line_feed) ≡ false → next place byte ≡ Within
@@ -61,57 +61,57 @@ other_next place byte is = cond-false (byte == line_feed) _ _ is
 
 -- the rest of a line, up to its line feed
 within_first : (bytes : List ℕ) (i : ℕ) (items : List Item) → i < length bytes → (slice_index bytes i == line_feed) ≡ true
-    → ((k : ℕ) → 0 ≤ k → k < i → (slice_index bytes k == line_feed) ≡ true → ⊥) → IsLog Start (drop (suc i) bytes) items → IsLog Within bytes items
+    → ((k : ℕ) → 0 ≤ k → k < i → (slice_index bytes k == line_feed) ≡ true → ⊥) → IsItemLog Start (drop (suc i) bytes) items → IsItemLog Within bytes items
 within_first [] i items l p none log = absurd (omega arith)
 within_first (byte ∷ bytes) zero items l p none log =
-    let P : ItemPlace → Type 0 = λ place. IsLog place bytes items in
+    let P : ItemPlace → Type 0 = λ place. IsItemLog place bytes items in
     within_log byte bytes items (subst P (sym (feed_next Within byte p)) log)
 within_first (byte ∷ bytes) (suc i) items l p none log =
-    let P : ItemPlace → Type 0 = λ place. IsLog place bytes items in
+    let P : ItemPlace → Type 0 = λ place. IsItemLog place bytes items in
     let no : (byte == line_feed) ≡ false = false_from_ne_true _ (none 0 (omega arith) (omega arith)) in
     let more = within_first bytes i items (omega arith) p (λ k low high. none (suc k) (omega arith) (omega arith)) log in
     within_log byte bytes items (subst P (sym (other_next Within byte no)) more)
 
-within_absent : (bytes : List ℕ) → ((k : ℕ) → 0 ≤ k → k < length bytes → (slice_index bytes k == line_feed) ≡ true → ⊥) → IsLog Within bytes []
+within_absent : (bytes : List ℕ) → ((k : ℕ) → 0 ≤ k → k < length bytes → (slice_index bytes k == line_feed) ≡ true → ⊥) → IsItemLog Within bytes []
 within_absent [] none = refl
 within_absent (byte ∷ bytes) none =
-    let P : ItemPlace → Type 0 = λ place. IsLog place bytes [] in
+    let P : ItemPlace → Type 0 = λ place. IsItemLog place bytes [] in
     let no : (byte == line_feed) ≡ false = false_from_ne_true _ (none 0 (omega arith) (omega arith)) in
     let more = within_absent bytes (λ k low high. none (suc k) (omega arith) (omega arith)) in
     within_log byte bytes [] (subst P (sym (other_next Within byte no)) more)
 
 pub later_first : (bytes : List ℕ) (i : ℕ) (items : List Item) → i < length bytes → (slice_index bytes i == line_feed) ≡ true
-    → ((k : ℕ) → 0 ≤ k → k < i → (slice_index bytes k == line_feed) ≡ true → ⊥) → IsLog (place_of (i == 0)) (drop (suc i) bytes) items
+    → ((k : ℕ) → 0 ≤ k → k < i → (slice_index bytes k == line_feed) ≡ true → ⊥) → IsItemLog (place_of (i == 0)) (drop (suc i) bytes) items
     → IsLaterLog bytes items
 later_first [] i items l p none log = absurd (omega arith)
 later_first (byte ∷ bytes) zero items l p none log =
-    let P : ItemPlace → Type 0 = λ place. IsLog place bytes items in subst P (sym (feed_next Start byte p)) log
+    let P : ItemPlace → Type 0 = λ place. IsItemLog place bytes items in subst P (sym (feed_next Start byte p)) log
 later_first (byte ∷ bytes) (suc i) items l p none log =
-    let P : ItemPlace → Type 0 = λ place. IsLog place bytes items in
+    let P : ItemPlace → Type 0 = λ place. IsItemLog place bytes items in
     let no : (byte == line_feed) ≡ false = false_from_ne_true _ (none 0 (omega arith) (omega arith)) in
-    let start : IsLog Start (drop (suc i) bytes) items =
-    subst (λ (b : Bool). IsLog (place_of b) (drop (suc i) bytes) items) (ne_eqb (suc i) 0 (λ e. omega arith)) log in
+    let start : IsItemLog Start (drop (suc i) bytes) items =
+    subst (λ (b : Bool). IsItemLog (place_of b) (drop (suc i) bytes) items) (ne_eqb (suc i) 0 (λ e. omega arith)) log in
     let more = within_first bytes i items (omega arith) p (λ k low high. none (suc k) (omega arith) (omega arith)) start in
     subst P (sym (other_next Start byte no)) more
 
 pub later_absent : (bytes : List ℕ) → ((k : ℕ) → 0 ≤ k → k < length bytes → (slice_index bytes k == line_feed) ≡ true → ⊥) → IsLaterLog bytes []
 later_absent [] none = refl
 later_absent (byte ∷ bytes) none =
-    let P : ItemPlace → Type 0 = λ place. IsLog place bytes [] in
+    let P : ItemPlace → Type 0 = λ place. IsItemLog place bytes [] in
     let no : (byte == line_feed) ≡ false = false_from_ne_true _ (none 0 (omega arith) (omega arith)) in
     let more = within_absent bytes (λ k low high. none (suc k) (omega arith) (omega arith)) in
     subst P (sym (other_next Start byte no)) more
 
 -- the log of bytes that begin at the top of a line, by what stands there and by what follows the first byte
 pub log_from : (top : Bool) (bytes : List ℕ) (found : Option Item) (later : List Item) → 0 < length bytes → Stands (place_of top) bytes found
-    → IsLaterLog bytes later → IsLog (place_of top) bytes (option_to_list found ++ later)
+    → IsLaterLog bytes later → IsItemLog (place_of top) bytes (option_to_list found ++ later)
 log_from top [] found later some stands log = absurd (omega arith)
 log_from true (byte ∷ bytes) found later some stands log = (found, later, stands, log_at_top byte log, refl)
   where
-    log_at_top : (byte : ℕ) → IsLog (next Start byte) bytes later → IsLog (next Top byte) bytes later
-    log_at_top byte log = let P : ItemPlace → Type 0 = λ place. IsLog place bytes later in subst P (same_next (byte == line_feed)) log
+    log_at_top : (byte : ℕ) → IsItemLog (next Start byte) bytes later → IsItemLog (next Top byte) bytes later
+    log_at_top byte log = let P : ItemPlace → Type 0 = λ place. IsItemLog place bytes later in subst P (same_next (byte == line_feed)) log
       where
-        same_next : (b : Bool) → cond b (after_feed Start) Within ≡ cond b (after_feed Top) Within
+        same_next : (b : Bool) → cond b (place_after_feed Start) Within ≡ cond b (place_after_feed Top) Within
         same_next true = refl
         same_next false = refl
 log_from false (byte ∷ bytes) found later some stands log = (found, later, stands, log, refl)

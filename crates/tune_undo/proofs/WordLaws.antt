@@ -10,7 +10,7 @@ use Rattle.std.proofs.lemmas.Fmt.{decimal_is_IsNumeral, length-decimal-le}
 use Rattle.hex.specs.Hex.{encode_lower, decode_sized}
 use Rattle.tune_undo.specs.OldEntries.{IsAfter}
 use Rattle.tune_undo.specs.EntryBytes.{after_word, length_word, kind_word, mark_word, IsMark}
-use Rattle.tune_undo.specs.Inside.ItemReading.{◌>>=◌, after, number_of, length_of, after_of, kind_of, mark_of}
+use Rattle.tune_undo.specs.Inside.ItemReading.{◌>>=◌, bytes_after, number_read, length_of, after_of_word, kind_read, mark_of}
 use Rattle.tune_undo.specs.Inside.SumWords.{sum_of}
 use Rattle.tune_undo.specs.declared.old_entries.EntryKind.{EntryKind}
 use Rattle.tune_undo.specs.declared.old_entries.EntryKind.TheVariants as kind
@@ -31,7 +31,7 @@ pub length_again : (was : Option ℕ) → IfSome was (λ n. n < 2 ^ 32) → leng
 length_again None small = refl
 length_again (Some n) small =
     let no : bytes_eq (decimal n) (codes "none") ≡ false = false_from_ne_true _ (λ y. decimal_not_none n small (is_word _ _ y)) in
-    cond-false _ _ _ no ∙ bind_is (number_of (decimal n)) _ n (number_again n small)
+    cond-false _ _ _ no ∙ bind_is (number_read (decimal n)) _ n (number_again n small)
 
 pub length_takes : (word : List ℕ) (was : Option ℕ) → length_of word ≡ Some was → IfSome was (λ n. n < 2 ^ 32) × (word ≡ length_word was)
 length_takes word was e =
@@ -39,12 +39,12 @@ length_takes word was e =
     elim (chosen (bytes_eq word (codes "none")) _ _ _ e) [
       | inl h ↦ subst P (same_Some _ _ h.1) (tt, is_word _ _ h.0)
       | inr h ↦
-          let n = bind_some (number_of word) (λ len. Some (Some len)) was h.1 in
+          let n = bind_some (number_read word) (λ len. Some (Some len)) was h.1 in
           subst P (same_Some _ _ n.2) (number_takes word n.0 n.1)
     ]
 
 -- AFTER A CHANGE
-pub after_word_again : (is : After) → IsAfter is → after_of (after_word is) ≡ Some is
+pub after_word_again : (is : After) → IsAfter is → after_of_word (after_word is) ≡ Some is
 after_word_again Nothing good = refl
 after_word_again (Text sum) good =
     cond-true _ _ _ (eq-eqb _ _ (length_digits sum good)) ∙ bind_is (sum_of (encode_lower sum)) _ sum (sum_again sum good)
@@ -52,9 +52,9 @@ after_word_again (Revision revision) good =
     let short : length (decimal revision) ≤ 10 = length-decimal-le 10 revision (omega arith) (omega arith) (omega arith) in
     let long : ℕ = length (codes "revision " ++ decimal revision) in
     let other : (long == 64) ≡ false = ne_eqb long 64 (λ e. omega (arith, e, short)) in
-    cond-false (long == 64) _ _ other ∙ bind_is (number_of (decimal revision)) _ revision (number_again revision good)
+    cond-false (long == 64) _ _ other ∙ bind_is (number_read (decimal revision)) _ revision (number_again revision good)
 
-pub after_of_takes : (word : List ℕ) (is : After) → after_of word ≡ Some is → IsAfter is × (word ≡ after_word is)
+pub after_of_takes : (word : List ℕ) (is : After) → after_of_word word ≡ Some is → IsAfter is × (word ≡ after_word is)
 after_of_takes word is e =
     let P : After → Type 0 = λ a. IsAfter a × (word ≡ after_word a) in
     elim (chosen (length word == 64) _ _ _ e) [
@@ -64,15 +64,15 @@ after_of_takes word is e =
       | inr h ↦ elim (chosen (bytes_eq word (codes "none")) _ _ _ h.1) [
         | inl n ↦ subst P (same_Some _ _ n.1) (tt, is_word _ _ n.0)
         | inr n ↦
-            let r = bind_some (after (codes "revision ") word) (λ rest. number_of rest >>= λ n. Some (Revision n)) is n.1 in
-            let m = bind_some (number_of r.0) (λ n. Some (Revision n)) is r.2 in
+            let r = bind_some (bytes_after (codes "revision ") word) (λ rest. number_read rest >>= λ n. Some (Revision n)) is n.1 in
+            let m = bind_some (number_read r.0) (λ n. Some (Revision n)) is r.2 in
             let number = number_takes r.0 m.0 m.1 in
             subst P (same_Some _ _ m.2) (number.0, after_takes (codes "revision ") word r.0 r.1 ∙ ap (λ t. codes "revision " ++ t) number.1)
       ]
     ]
 
 -- KINDS
-pub kind_again : (k : EntryKind) → kind_of (kind_word k) ≡ Some k
+pub kind_again : (k : EntryKind) → kind_read (kind_word k) ≡ Some k
 kind_again kind.Delete = refl
 kind_again kind.Replace = refl
 kind_again kind.Put = refl
@@ -92,7 +92,7 @@ asked word other k found more spelled e go = elim (chosen (bytes_eq word other) 
   | inr h ↦ go h.1
 ]
 
-pub kind_takes : (word : List ℕ) (k : EntryKind) → kind_of word ≡ Some k → word ≡ kind_word k
+pub kind_takes : (word : List ℕ) (k : EntryKind) → kind_read word ≡ Some k → word ≡ kind_word k
 kind_takes word k e =
     asked word (codes "delete") kind.Delete k _ refl e (λ e. asked word (codes "replace") kind.Replace k _ refl e
     (λ e. asked word (codes "put") kind.Put k _ refl e (λ e. asked word (codes "cut") kind.Cut k _ refl e
@@ -105,7 +105,7 @@ kind_takes word k e =
 pub mark_again : (mark : Mark) → IsMark mark → mark_of (mark_word mark) ≡ Some mark
 mark_again NotDone good = refl
 mark_again Undone good = refl
-mark_again (Undoing greatest) good = bind_is (number_of (decimal greatest)) _ greatest (number_again greatest good)
+mark_again (Undoing greatest) good = bind_is (number_read (decimal greatest)) _ greatest (number_again greatest good)
 
 -- how the word of a mark is written
 abbrev pub IsMarkWord : List ℕ → Mark → Type 0
@@ -121,8 +121,8 @@ mark_takes word mark e =
         | inr h ↦ elim (chosen (bytes_eq word (codes "undoing")) _ _ _ h.1) [
           | inl h ↦ subst P (same_Some _ _ h.1) (inr (is_word _ _ h.0, refl))
           | inr h ↦
-              let r = bind_some (after (codes "undoing ") word) (λ rest. number_of rest >>= λ n. Some (Undoing n)) mark h.1 in
-              let m = bind_some (number_of r.0) (λ n. Some (Undoing n)) mark r.2 in
+              let r = bind_some (bytes_after (codes "undoing ") word) (λ rest. number_read rest >>= λ n. Some (Undoing n)) mark h.1 in
+              let m = bind_some (number_read r.0) (λ n. Some (Undoing n)) mark r.2 in
               let number = number_takes r.0 m.0 m.1 in
               subst P (same_Some _ _ m.2) (inl (number.0, after_takes (codes "undoing ") word r.0 r.1 ∙ ap (λ t. codes "undoing " ++ t) number.1))
         ]

@@ -4,7 +4,7 @@ use Rattle.std.specs.Prelude.{Option, None, Some, ⊤}
 use Rattle.std.specs.Option.{option_map}
 use Rattle.std.specs.List.{AllByRecursion}
 use Rattle.hex.specs.Hex.{encode_lower}
-use Rattle.tune_undo.specs.OldEntries.{EntryValue, IsPart}
+use Rattle.tune_undo.specs.OldEntries.{EntryValue, IsEntryPart}
 use Rattle.tune_undo.specs.declared.old_entries.EntryKind.{EntryKind}
 use Rattle.tune_undo.specs.declared.old_entries.EntryKind.TheVariants as kind
 use Rattle.tune_undo.specs.declared.old_entries.After.{After}
@@ -102,6 +102,6 @@ mark_bytes mark = codes "% tunes-book " ++ (mark_word mark ++ codes "\n")
 
 -- an entry within the limits of the program's types, and of 4 GB
 pub record IsEntry (entry : EntryValue) : Type 0 where
-  pub parts : AllByRecursion IsPart entry.parts
+  pub parts : AllByRecursion IsEntryPart entry.parts
   pub count : length entry.parts < 2 ^ 32
   pub size : length (parts_bytes entry.parts) < 2 ^ 32

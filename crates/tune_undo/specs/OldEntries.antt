@@ -41,8 +41,8 @@ IsAfter (Text sum) = IsSum sum
 IsAfter (Revision revision) = revision < 2 ^ 32
 
 -- a part as the program's types have it: tune texts, good names, numbers of 32 bits
-abbrev pub IsPart : Part → Type 0
-IsPart (Tune number was is) =
+abbrev pub IsEntryPart : Part → Type 0
+IsEntryPart (Tune number was is) =
     (number < 2 ^ 32) × (IfSome was (λ text. IsTextWithin longest_tune text) × IsAfter is)
-IsPart (Set name was is) =
+IsEntryPart (Set name was is) =
     (is_good_name name ≡ true) × (IfSome was AreNumbers × IfSome is AreNumbers)

@@ -78,16 +78,16 @@ abbrev pub IsEntryWritten : List ℕ → EntryValue → Type 0
 IsEntryWritten bytes entry = (IsEntry entry × (bytes ≡ entry_bytes entry))
     ⊎ ((old : OldEntry) × IsOld old × (bytes ≡ old_bytes old) × (entry_of_old old ≡ entry))
 
-abbrev pub IsWritten : List ℕ → Item → Type 0
-IsWritten bytes (Entered entry) = IsEntryWritten bytes entry
-IsWritten bytes (Marked mark) = IsMarkWritten bytes mark
+abbrev pub IsItemWritten : List ℕ → Item → Type 0
+IsItemWritten bytes (Entered entry) = IsEntryWritten bytes entry
+IsItemWritten bytes (Marked mark) = IsMarkWritten bytes mark
 
 -- these bytes begin with all of an item
-pub record Begins (bytes : List ℕ) (item : Item) : Type 0 where
+pub record BeginsWithItem (bytes : List ℕ) (item : Item) : Type 0 where
   pub front : List ℕ
   pub rest : List ℕ
   pub whole : front ++ rest ≡ bytes
-  pub written : IsWritten front item
+  pub written : IsItemWritten front item
 
 -- where a byte stands: at the top of a line after an empty line or at the front of the book, at
 -- the top of another line, or within a line
@@ -96,27 +96,27 @@ pub data ItemPlace : Type 0 where
   Start : ItemPlace
   Within : ItemPlace
 
-abbrev pub after_feed : ItemPlace → ItemPlace
-after_feed Within = Start
-after_feed Start = Top
-after_feed Top = Top
+abbrev pub place_after_feed : ItemPlace → ItemPlace
+place_after_feed Within = Start
+place_after_feed Start = Top
+place_after_feed Top = Top
 
 -- the place after a byte
 abbrev pub next : ItemPlace → ℕ → ItemPlace
-next place byte = if byte == line_feed then after_feed place else Within
+next place byte = if byte == line_feed then place_after_feed place else Within
 
 -- what stands at a place: the item that begins there, if it is at the top after an empty line
 abbrev pub Stands : ItemPlace → List ℕ → Option Item → Type 0
-Stands Top bytes (Some item) = Begins bytes item
-Stands Top bytes None = (item : Item) → ¬ Begins bytes item
+Stands Top bytes (Some item) = BeginsWithItem bytes item
+Stands Top bytes None = (item : Item) → ¬ BeginsWithItem bytes item
 Stands Start bytes found = found ≡ None
 Stands Within bytes found = found ≡ None
 
 -- the items of a book from a place on, in order
-abbrev pub IsLog : ItemPlace → List ℕ → List Item → Type 0
-IsLog place [] items = items ≡ []
-IsLog place (byte ∷ bytes) items = (found : Option Item) × (later : List Item)
-    × Stands place (byte ∷ bytes) found × IsLog (next place byte) bytes later
+abbrev pub IsItemLog : ItemPlace → List ℕ → List Item → Type 0
+IsItemLog place [] items = items ≡ []
+IsItemLog place (byte ∷ bytes) items = (found : Option Item) × (later : List Item)
+    × Stands place (byte ∷ bytes) found × IsItemLog (next place byte) bytes later
     × (items ≡ option_to_list found ++ later)
 
 -- WHAT IS NOT UNDONE

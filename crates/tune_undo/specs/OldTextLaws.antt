@@ -3,7 +3,7 @@ use Rattle.std.specs.Prelude.{◌≡◌, ℕ, List, [], ◌∷◌, ◌++◌, cod
 use Rattle.std.specs.Prelude.{◌==◌, if◌then◌else◌}
 use Rattle.abc_fields.specs.Bytes.{line_feed}
 use Rattle.tune_undo.specs.EntryBytes.{IsEntry, entry_bytes, IsMark, mark_bytes}
-use Rattle.tune_undo.specs.OldItems.{Item, Entered, Marked, Top, IsLog, standing, after_item}
+use Rattle.tune_undo.specs.OldItems.{Item, Entered, Marked, Top, IsItemLog, standing, after_item}
 
 -- whether the last line is ended: there is none, or its line feed is there
 abbrev pub is_ended : List ℕ → Bool
@@ -21,17 +21,17 @@ abbrev pub made_ready : List ℕ → List ℕ
 made_ready book = book ++ before_piece (is_ended book)
 
 -- an entry or a mark as it is written
-abbrev pub IsPiece : List ℕ → Item → Type 0
-IsPiece bytes (Entered entry) = IsEntry entry × (bytes ≡ entry_bytes entry)
-IsPiece bytes (Marked mark) = IsMark mark × (bytes ≡ mark_bytes mark)
+abbrev pub IsWrittenItem : List ℕ → Item → Type 0
+IsWrittenItem bytes (Entered entry) = IsEntry entry × (bytes ≡ entry_bytes entry)
+IsWrittenItem bytes (Marked mark) = IsMark mark × (bytes ≡ mark_bytes mark)
 
 -- the items with a piece at the end are those without it, and then that of the piece
 abbrev pub AddsItem : List ℕ → List ℕ → Item → Type 0
-AddsItem book piece item = (items : List Item) → IsLog Top (made_ready book ++ piece) items
-    → (before : List Item) × IsLog Top (made_ready book) before × (items ≡ before ++ item ∷ [])
+AddsItem book piece item = (items : List Item) → IsItemLog Top (made_ready book ++ piece) items
+    → (before : List Item) × IsItemLog Top (made_ready book) before × (items ≡ before ++ item ∷ [])
     × (standing items ≡ after_item (standing before) item)
 
 -- with a piece at the end that is cut, the items are those without it
 abbrev pub AddsNothing : List ℕ → List ℕ → Type 0
-AddsNothing book front = (items : List Item) → IsLog Top (made_ready book ++ front) items
-    → IsLog Top (made_ready book) items
+AddsNothing book front = (items : List Item) → IsItemLog Top (made_ready book ++ front) items
+    → IsItemLog Top (made_ready book) items

@@ -1,8 +1,9 @@
 // Fields of a line: bytes up to a space or to the end of the line, and what they say.
 ghost use Rattle.std.specs.Prelude.{◌≡◌, ◌≢◌, ℕ, ◌+◌, ◌^◌, ◌<◌, decimal, IfNone, IfSome};
 ghost use Rattle.std.specs.Str.{bytes_eq};
-ghost use Rattle.tune_undo.specs.Inside.ItemReading.{Gives, after, field_at, number_of, number_at};
-ghost use Rattle.tune_undo.specs.Inside.ItemReading.{kind_of, length_of, after_of, mark_of};
+ghost use Rattle.tune_undo.specs.Inside.ItemReading.{IsReadAs, bytes_after, field_at, number_read};
+ghost use Rattle.tune_undo.specs.Inside.ItemReading.{number_read_at};
+ghost use Rattle.tune_undo.specs.Inside.ItemReading.{kind_read, length_of, after_of_word, mark_of};
 
 use crate::old_entries::{After, EntryKind, Mark};
 use crate::text_sums::sum_of;
@@ -12,7 +13,7 @@ use std::str::from_utf8;
 
 // What follows these bytes, where others begin with them.
 pub(crate) fn after<'a>(bytes: &'a [u8], front: &[u8]) -> Option<&'a [u8]>
-    ensures { Gives (λ rest. rest.now) result (after front.now bytes.now) }
+    ensures { IsReadAs (λ rest. rest.now) result (bytes_after front.now bytes.now) }
 {
     if bytes.starts_with(front) {
         Some(&bytes[front.len()..])
@@ -23,7 +24,7 @@ pub(crate) fn after<'a>(bytes: &'a [u8], front: &[u8]) -> Option<&'a [u8]>
 
 // The bytes before the first of this one, and those after it.
 pub(crate) fn field(bytes: &[u8], end: u8) -> Option<(&[u8], &[u8])>
-    ensures { Gives (λ r. (r.0.now, r.1.now)) result (field_at end bytes.now) }
+    ensures { IsReadAs (λ r. (r.0.now, r.1.now)) result (field_at end bytes.now) }
 {
     let len = memchr(end, bytes)?;
     Some((&bytes[..len], &bytes[len + 1..]))
@@ -31,7 +32,7 @@ pub(crate) fn field(bytes: &[u8], end: u8) -> Option<(&[u8], &[u8])>
 
 // The number of 32 bits that these digits are, in decimal without leading zeros.
 pub(crate) fn number_of(word: &[u8]) -> Option<u32>
-    ensures { result ≡ number_of word.now }
+    ensures { result ≡ number_read word.now }
 {
     let number = parsed(word)?;
     if is_decimal(number, word) {
@@ -60,7 +61,7 @@ fn is_decimal(number: u32, word: &[u8]) -> bool
 
 // The number before the first of these bytes, and what follows it.
 pub(crate) fn number(bytes: &[u8], end: u8) -> Option<(u32, &[u8])>
-    ensures { Gives (λ r. (r.0, r.1.now)) result (number_at end bytes.now) }
+    ensures { IsReadAs (λ r. (r.0, r.1.now)) result (number_read_at end bytes.now) }
 {
     let (word, rest) = field(bytes, end)?;
     let number = number_of(word)?;
@@ -80,7 +81,7 @@ pub(crate) fn length_of(word: &[u8]) -> Option<Option<u32>>
 
 // What a tune is after a change.
 pub(crate) fn after_of(word: &[u8]) -> Option<After>
-    ensures { result ≡ after_of word.now }
+    ensures { result ≡ after_of_word word.now }
 {
     if word.len() == 64 {
         let sum = sum_of(word)?;
@@ -95,7 +96,7 @@ pub(crate) fn after_of(word: &[u8]) -> Option<After>
 
 // The kind of an entry.
 pub(crate) fn kind_of(word: &[u8]) -> Option<EntryKind>
-    ensures { result ≡ kind_of word.now }
+    ensures { result ≡ kind_read word.now }
 {
     if word == b"delete".as_slice() {
         Some(EntryKind::Delete)

@@ -2,7 +2,8 @@
 ghost use Rattle.std.specs.Prelude.{◌≡◌, ◌≢◌, ◌++◌, ℕ, List, IfOk, IfSome, IfNone};
 ghost use Rattle.tune_undo.specs.OldEntries.{EntryValue, entry_value};
 ghost use Rattle.tune_undo.specs.EntryBytes.{IsEntry, entry_bytes};
-ghost use Rattle.tune_undo.specs.OldItems.{OldEntry, IsOld, old_bytes, entry_of_old, Item, Begins};
+ghost use Rattle.tune_undo.specs.OldItems.{OldEntry, IsOld, old_bytes, entry_of_old, Item};
+ghost use Rattle.tune_undo.specs.OldItems.{BeginsWithItem};
 ghost use Rattle.tune_undo.specs.OldItems.{IsMarkWritten};
 ghost use Rattle.tune_undo.specs.Inside.EntryLines.{after_old_of, text_len_of};
 ghost use Rattle.tune_undo.specs.Inside.Found.{found_value, OldRead};
@@ -107,8 +108,9 @@ fn text_len(len: usize, bytes: &[u8]) -> Option<usize>
 // What begins here.
 pub(crate) fn found_at(alloc: Global, bytes: &[u8]) -> Result<Option<Found>, AllocError>
     ensures found { IfOk result (λ read. IfSome read (λ f.
-        Begins bytes.now (found_value f))) }
-    ensures none { IfOk result (λ read. IfNone read ((item : Item) → ¬ Begins bytes.now item)) }
+        BeginsWithItem bytes.now (found_value f))) }
+    ensures none { IfOk result
+        (λ read. IfNone read ((item : Item) → ¬ BeginsWithItem bytes.now item)) }
 {
     if let Some(entry) = entry(alloc, bytes)? {
         return Ok(Some(Found::Entry(entry)));

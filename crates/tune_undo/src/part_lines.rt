@@ -1,6 +1,6 @@
 // The lines by which the parts of an entry begin.
 ghost use Rattle.std.specs.Prelude.{◌≡◌};
-ghost use Rattle.tune_undo.specs.Inside.ItemReading.{Gives};
+ghost use Rattle.tune_undo.specs.Inside.ItemReading.{IsReadAs};
 ghost use Rattle.tune_undo.specs.Inside.EntryLines.{tune_line_at, set_line_at, number_line_at};
 ghost use Rattle.tune_undo.specs.Inside.EntryLines.{first_line_at, mark_line_at, old_line_at};
 ghost use Rattle.tune_undo.specs.Inside.EntryLines.{old_len_of, first_of_three};
@@ -26,7 +26,7 @@ pub(crate) struct FirstLine {
 
 // The line of a tune, and what follows it.
 pub(crate) fn tune_line(bytes: &[u8]) -> Option<(TuneLine, &[u8])>
-    ensures { Gives (λ r. (r.0, r.1.now)) result (tune_line_at bytes.now) }
+    ensures { IsReadAs (λ r. (r.0, r.1.now)) result (tune_line_at bytes.now) }
 {
     let bytes = after(bytes, b"% tune ")?;
     let (number, bytes) = number(bytes, b' ')?;
@@ -41,7 +41,7 @@ pub(crate) fn tune_line(bytes: &[u8]) -> Option<(TuneLine, &[u8])>
 
 // The `X:` line of a tune: its number, and what follows it.
 pub(crate) fn number_line(bytes: &[u8]) -> Option<(u32, &[u8])>
-    ensures { Gives (λ r. (r.0, r.1.now)) result (number_line_at bytes.now) }
+    ensures { IsReadAs (λ r. (r.0, r.1.now)) result (number_line_at bytes.now) }
 {
     let bytes = after(bytes, b"X:")?;
     number(bytes, b'\n')
@@ -50,7 +50,7 @@ pub(crate) fn number_line(bytes: &[u8]) -> Option<(u32, &[u8])>
 // The line of a set list with this word: its name, its numbers as they are written, and what
 // follows.
 pub(crate) fn set_line<'a>(bytes: &'a [u8], word: &[u8]) -> Option<(&'a [u8], &'a [u8], &'a [u8])>
-    ensures { Gives (λ r. (r.0.now, r.1.now, r.2.now)) result
+    ensures { IsReadAs (λ r. (r.0.now, r.1.now, r.2.now)) result
         (set_line_at word.now bytes.now) }
 {
     let bytes = after(bytes, b"% set ")?;
@@ -62,7 +62,7 @@ pub(crate) fn set_line<'a>(bytes: &'a [u8], word: &[u8]) -> Option<(&'a [u8], &'
 
 // The first line of an entry, and what follows it.
 pub(crate) fn first_line(bytes: &[u8]) -> Option<(FirstLine, &[u8])>
-    ensures { Gives (λ r. (r.0, r.1.now)) result (first_line_at bytes.now) }
+    ensures { IsReadAs (λ r. (r.0, r.1.now)) result (first_line_at bytes.now) }
 {
     let bytes = after(bytes, b"% tunes-book ")?;
     let (word, bytes) = field(bytes, b' ')?;
@@ -74,7 +74,7 @@ pub(crate) fn first_line(bytes: &[u8]) -> Option<(FirstLine, &[u8])>
 
 // The line of a mark, and what follows it.
 pub(crate) fn mark_line(bytes: &[u8]) -> Option<(Mark, &[u8])>
-    ensures { Gives (λ r. (r.0, r.1.now)) result (mark_line_at bytes.now) }
+    ensures { IsReadAs (λ r. (r.0, r.1.now)) result (mark_line_at bytes.now) }
 {
     let bytes = after(bytes, b"% tunes-book ")?;
     let (word, rest) = field(bytes, b'\n')?;
@@ -93,7 +93,7 @@ pub(crate) struct OldLine {
 
 // The first line of an entry of before, and what follows it.
 pub(crate) fn old_line(bytes: &[u8]) -> Option<(OldLine, &[u8])>
-    ensures { Gives (λ r. (r.0, r.1.now)) result (old_line_at bytes.now) }
+    ensures { IsReadAs (λ r. (r.0, r.1.now)) result (old_line_at bytes.now) }
 {
     let bytes = after(bytes, b"% tunes-book ")?;
     let (word, bytes) = field(bytes, b' ')?;

@@ -7,11 +7,11 @@ ghost use Rattle.std.specs.List.{AllByRecursion};
 ghost use Rattle.abc_fields.specs.Limits.{longest_tune};
 ghost use Rattle.abc_fields.specs.Tunes.{IsTextWithin};
 ghost use Rattle.tune_sets.specs.Names.{is_good_name};
-ghost use Rattle.tune_undo.specs.OldEntries.{AreNumbers, IsPart};
+ghost use Rattle.tune_undo.specs.OldEntries.{AreNumbers, IsEntryPart};
 ghost use Rattle.tune_undo.specs.EntryBytes.{book_tune, numbers_bytes, list_bytes, set_line};
 ghost use Rattle.tune_undo.specs.EntryBytes.{part_bytes, parts_bytes};
-ghost use Rattle.tune_undo.specs.Inside.ItemReading.{Gives};
-ghost use Rattle.tune_undo.specs.Inside.EntryLines.{word_of, next_number};
+ghost use Rattle.tune_undo.specs.Inside.ItemReading.{IsReadAs};
+ghost use Rattle.tune_undo.specs.Inside.EntryLines.{word_before_space, next_number};
 ghost use Rattle.tune_undo.specs.declared.old_entries.After.{After};
 ghost use Rattle.tune_undo.specs.declared.old_entries.Part.{Part};
 ghost use Rattle.tune_undo.specs.declared.old_entries.Part.TheVariants.{Tune, Set};
@@ -61,11 +61,11 @@ pub(crate) fn text_at(
 
 // The tune at the front of bytes, and what follows it.
 fn tune_part(alloc: Global, bytes: &[u8]) -> Result<Option<(Part, &[u8])>, AllocError>
-    ensures part { IfOk result (λ read. IfSome read (λ r. IsPart r.0)) }
+    ensures part { IfOk result (λ read. IfSome read (λ r. IsEntryPart r.0)) }
     ensures found { IfOk result (λ read. IfSome read (λ r.
         part_bytes r.0 ++ r.1.now ≡ bytes.now)) }
     ensures none { IfOk result (λ read. IfNone read ((number : ℕ) (was : Option (List ℕ))
-        (is : After) (later : List ℕ) → IsPart (Tune number was is)
+        (is : After) (later : List ℕ) → IsEntryPart (Tune number was is)
         → part_bytes (Tune number was is) ++ later ≢ bytes.now)) }
 {
     let Some((line, rest)) = tune_line(bytes) else {
@@ -89,7 +89,7 @@ fn tune_part(alloc: Global, bytes: &[u8]) -> Result<Option<(Part, &[u8])>, Alloc
 
 // A number behind a space, and what follows it, which is nothing or begins with a space.
 fn next_number(bytes: &[u8]) -> Option<(u32, &[u8])>
-    ensures { Gives (λ r. (r.0, r.1.now)) result (next_number bytes.now) }
+    ensures { IsReadAs (λ r. (r.0, r.1.now)) result (next_number bytes.now) }
 {
     let bytes = after(bytes, b" ")?;
     let (word, rest) = word(bytes);
@@ -99,14 +99,14 @@ fn next_number(bytes: &[u8]) -> Option<(u32, &[u8])>
 
 // The bytes before the first space, and the others.
 fn word(bytes: &[u8]) -> (&[u8], &[u8])
-    ensures word { result.0.now ≡ word_of bytes.now }
-    ensures rest { result.1.now ≡ drop (length (word_of bytes.now)) bytes.now }
+    ensures word { result.0.now ≡ word_before_space bytes.now }
+    ensures rest { result.1.now ≡ drop (length (word_before_space bytes.now)) bytes.now }
 {
     bytes.split_at(word_len(bytes))
 }
 
 fn word_len(bytes: &[u8]) -> usize
-    ensures len { result ≡ length (word_of bytes.now) }
+    ensures len { result ≡ length (word_before_space bytes.now) }
     ensures within { result ≤ length bytes.now }
 {
     match memchr(b' ', bytes) {
@@ -191,11 +191,11 @@ fn set_row<'a>(
 
 // The set list at the front of bytes, and what follows it.
 fn set_part(alloc: Global, bytes: &[u8]) -> Result<Option<(Part, &[u8])>, AllocError>
-    ensures part { IfOk result (λ read. IfSome read (λ r. IsPart r.0)) }
+    ensures part { IfOk result (λ read. IfSome read (λ r. IsEntryPart r.0)) }
     ensures found { IfOk result (λ read. IfSome read (λ r.
         part_bytes r.0 ++ r.1.now ≡ bytes.now)) }
     ensures none { IfOk result (λ read. IfNone read ((name : List ℕ)
-        (was is : Option (List ℕ)) (later : List ℕ) → IsPart (Set name was is)
+        (was is : Option (List ℕ)) (later : List ℕ) → IsEntryPart (Set name was is)
         → part_bytes (Set name was is) ++ later ≢ bytes.now)) }
 {
     let Some(first) = set_row(alloc, b"was", bytes)? else {
@@ -223,11 +223,11 @@ fn set_part(alloc: Global, bytes: &[u8]) -> Result<Option<(Part, &[u8])>, AllocE
 
 // The part at the front of bytes, and what follows it.
 fn part_at(alloc: Global, bytes: &[u8]) -> Result<Option<(Part, &[u8])>, AllocError>
-    ensures part { IfOk result (λ read. IfSome read (λ r. IsPart r.0)) }
+    ensures part { IfOk result (λ read. IfSome read (λ r. IsEntryPart r.0)) }
     ensures found { IfOk result (λ read. IfSome read (λ r.
         part_bytes r.0 ++ r.1.now ≡ bytes.now)) }
     ensures none { IfOk result (λ read. IfNone read ((part : Part) (later : List ℕ)
-        → IsPart part → part_bytes part ++ later ≢ bytes.now)) }
+        → IsEntryPart part → part_bytes part ++ later ≢ bytes.now)) }
 {
     if let Some(found) = tune_part(alloc, bytes)? {
         return Ok(Some(found));
@@ -237,10 +237,10 @@ fn part_at(alloc: Global, bytes: &[u8]) -> Result<Option<(Part, &[u8])>, AllocEr
 
 // The parts that these bytes are.
 pub(crate) fn parts(alloc: Global, bytes: &[u8]) -> Result<Option<Vec<Part>>, AllocError>
-    ensures parts { IfOk result (λ read. IfSome read (λ v. AllByRecursion IsPart v.items)) }
+    ensures parts { IfOk result (λ read. IfSome read (λ v. AllByRecursion IsEntryPart v.items)) }
     ensures found { IfOk result (λ read. IfSome read (λ v. parts_bytes v.items ≡ bytes.now)) }
     ensures none { IfOk result (λ read. IfNone read ((parts : List Part)
-        → AllByRecursion IsPart parts → parts_bytes parts ≢ bytes.now)) }
+        → AllByRecursion IsEntryPart parts → parts_bytes parts ≢ bytes.now)) }
 {
     let mut parts = Vec::new(alloc);
     let mut rest = bytes;

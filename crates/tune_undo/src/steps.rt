@@ -2,7 +2,7 @@
 ghost use Rattle.std.specs.Prelude.{◌≡◌, ◌<◌, List, length, map, IfOk, OnOk};
 ghost use Rattle.std.specs.Option.{option_map};
 ghost use Rattle.tune_undo.specs.OldEntries.{step_value, entry_value};
-ghost use Rattle.tune_undo.specs.OldItems.{Item, Entered, Top, Stands, IsLog, standing};
+ghost use Rattle.tune_undo.specs.OldItems.{Item, Entered, Top, Stands, IsItemLog, standing};
 ghost use Rattle.tune_undo.specs.OldItems.{after_item, after_mark, without_last, begun_last};
 ghost use Rattle.tune_undo.specs.Inside.Found.{found_value, place_of, IsLaterLog, after_found};
 
@@ -15,7 +15,7 @@ use std::alloc::{AllocError, Global};
 /// any bytes, and may be cut anywhere: an entry counts where all of it is there. The error is out
 /// of memory.
 pub fn standing_steps(alloc: Global, book: &[u8]) -> Result<Vec<Step>, AllocError>
-    ensures { IfOk result (λ steps. (items : List Item) × IsLog Top book.now items
+    ensures { IfOk result (λ steps. (items : List Item) × IsItemLog Top book.now items
         × (map step_value steps.items ≡ standing items)) }
 {
     let mut steps = Vec::new(alloc);
@@ -44,7 +44,7 @@ fn found_if(alloc: Global, top: bool, bytes: &[u8]) -> Result<Option<Found>, All
 fn next_line(bytes: &[u8]) -> (bool, &[u8])
     ensures shorter { 0 < length bytes.now → length result.1.now < length bytes.now }
     ensures log { (items : List Item) → 0 < length bytes.now
-        → IsLog (place_of result.0) result.1.now items → IsLaterLog bytes.now items }
+        → IsItemLog (place_of result.0) result.1.now items → IsLaterLog bytes.now items }
 {
     match memchr(b'\n', bytes) {
         None => (false, &bytes[bytes.len()..]),

@@ -90,11 +90,11 @@ impl<'a, R: AllocGlobal, H> Alloc for FileDesk<'a, R, H> {
 
 impl<'a, R: Files<File = File> + AllocGlobal + Clock + Eprint + Clone + Drop, H: FileHistory> Desk
     for FileDesk<'a, R, H> {
-    ghost use Rattle.tune_desk.specs.DeskLog.{deeds_of};
+    ghost use Rattle.tune_desk.specs.DeskLog.{desk_deeds_of};
 
     type Disk = FileDisk<H>;
 
-    ghost deeds = { λ desk. deeds_of desk.log };
+    ghost deeds = { λ desk. desk_deeds_of desk.log };
 
     ghost is_new = { HasJustOpened };
 
@@ -191,7 +191,7 @@ impl<'a, R: Files<File = File> + AllocGlobal + Clock + Eprint + Clone + Drop, H:
     }
 
     fn create(&mut self, path: &String) -> Result<FileDisk<H>, DeskFault> {
-        let created = create_disk(self.rt, self.line, path.as_str(), self.history);
+        let created = created_in_time(self.rt, self.line, path.as_str(), self.wait, self.history);
         let answer = told_opening(self.line, path, created);
         self.log.create(path, &answer);
         answer
@@ -667,6 +667,51 @@ fn create_disk<R: Files<File = File> + Eprint, H: FileHistory>(
             take_back(rt, line, path);
             Err(error)
         }
+    }
+}
+
+// Tries again for so many seconds while another program makes a file there.
+fn created_in_time<R: Files<File = File> + Clock + Eprint, H: FileHistory>(
+    rt: &R,
+    line: &ProgressLine<R>,
+    path: &str,
+    wait: u32,
+    history: &H,
+) -> io::Result<FileDisk<H>>
+    ensures { IfOk result HasJustOpened }
+{
+    for tried in 0..u64::from(wait) * TRIES_A_SECOND {
+        match create_disk(rt, line, path, history) {
+            Err(error) if is_in_work(rt, path, tried, &error, history) => {
+                thread::sleep(rt, Duration::from_millis(PAUSE_MILLIS));
+            }
+            answer => return answer,
+        }
+    }
+    create_disk(rt, line, path, history)
+}
+
+// Whether another program makes the file for which this is the answer. One that was just made may
+// not be locked yet, so for a second each is taken for one in work; what a crash left has no lock.
+fn is_in_work<R: Files<File = File>, H: FileHistory>(
+    rt: &R,
+    path: &str,
+    tried: u64,
+    error: &io::Error,
+    history: &H,
+) -> bool {
+    match error.kind() {
+        io::ErrorKind::WouldBlock => true,
+        io::ErrorKind::AlreadyExists => tried < TRIES_A_SECOND || is_held(rt, path, history),
+        _ => false,
+    }
+}
+
+// Whether another program has a file open to change it.
+fn is_held<R: Files<File = File>, H: FileHistory>(rt: &R, path: &str, history: &H) -> bool {
+    match FileDisk::try_open_to_read(rt, path, history) {
+        Ok(_) => false,
+        Err(error) => error.kind() == io::ErrorKind::WouldBlock,
     }
 }
 

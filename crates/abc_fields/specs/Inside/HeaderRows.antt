@@ -27,14 +27,14 @@ rows_with rows Always text = rows ++ record { rule = Always; text = text } ∷ [
 rows_with rows (Unless letter) text = rows ++ record { rule = Unless letter; text = text } ∷ []
 
 -- the rows of lines, after these rows and below a field line of this rule
-abbrev pub rows_after : List HeaderRow → CarryRule → List (List ℕ) → List HeaderRow
-rows_after rows above [] = rows
-rows_after rows above (line ∷ lines) =
-    rows_after (rows_with rows (rule_of above line) line) (rule_below above line) lines
+abbrev pub header_rows_after : List HeaderRow → CarryRule → List (List ℕ) → List HeaderRow
+header_rows_after rows above [] = rows
+header_rows_after rows above (line ∷ lines) =
+    header_rows_after (rows_with rows (rule_of above line) line) (rule_below above line) lines
 
 abbrev pub rows_of_block : List HeaderRow → CarryRule → List (List ℕ) → List HeaderRow
 rows_of_block rows above block =
-    if list_all is_header_line block then rows_after rows above block else []
+    if list_all is_header_line block then header_rows_after rows above block else []
 
 -- the rows of the file header of lines
 abbrev pub header_rows : List (List ℕ) → List HeaderRow
@@ -46,14 +46,14 @@ open_rows false rows above lines = header_rows lines
 open_rows true rows above lines = rows_of_block rows above (block_of lines)
 
 -- the lines of rows that a tune carries whose own header has the fields of these letters
-abbrev pub taken : (ℕ → Bool) → List HeaderRow → List (List ℕ)
-taken owns [] = []
-taken owns (row ∷ rows) =
-    if carries owns row.rule then row.text ∷ taken owns rows else taken owns rows
+abbrev pub taken_lines : (ℕ → Bool) → List HeaderRow → List (List ℕ)
+taken_lines owns [] = []
+taken_lines owns (row ∷ rows) =
+    if carries owns row.rule then row.text ∷ taken_lines owns rows else taken_lines owns rows
 
 -- the lines of a tune, with those that it carries of these rows
 abbrev pub with_rows : List HeaderRow → List (List ℕ) → List (List ℕ)
-with_rows rows run = before_key (taken (has_letter (header_of run)) rows) run
+with_rows rows run = before_key (taken_lines (has_letter (header_of run)) rows) run
 
 -- LETTERS
 -- whether a table of letters has this one
@@ -86,7 +86,7 @@ sum_all (sum ∷ sums) = sum.length + sum_all sums
 
 -- rows and the sums of their bytes by rules, each line with its line feed
 pub record AreSums (rows : List HeaderRow) (sums : List RuleSum) : Type 0 where
-  pub each : (owns : ℕ → Bool) → sum_carried owns sums ≡ length (joined (taken owns rows))
+  pub each : (owns : ℕ → Bool) → sum_carried owns sums ≡ length (joined (taken_lines owns rows))
   pub few : sum_all sums ≤ longest_book + 1
   pub bytes : AreByteRows rows
 

@@ -52,10 +52,10 @@ pub record AreOf (place : ℕ) (rows : List HeaderRow) (lines : RuleLines) : Typ
   pub bytes : lines.bytes ≡ joined (texts_by lines.rule rows)
 
 -- no two of these rules are the same
-abbrev pub AreApart : List CarryRule → Type 0
-AreApart [] = ⊤
-AreApart (rule ∷ rules) =
-    AllByRecursion (λ other. same_rule rule other ≡ false) rules × AreApart rules
+abbrev pub AreDistinctRules : List CarryRule → Type 0
+AreDistinctRules [] = ⊤
+AreDistinctRules (rule ∷ rules) =
+    AllByRecursion (λ other. same_rule rule other ≡ false) rules × AreDistinctRules rules
 
 abbrev pub rules_of : List RuleLines → List CarryRule
 rules_of shares = map (λ lines. lines.rule) shares
@@ -66,7 +66,7 @@ pub record AreShares (test : CarryRule → Bool) (place : ℕ) (rows : List Head
     (shares : List RuleLines) : Type 0 where
   pub each : AllByRecursion (AreOf place rows) shares
   pub tested : AllByRecursion (λ rule. test rule ≡ true) (rules_of shares)
-  pub apart : AreApart (rules_of shares)
+  pub apart : AreDistinctRules (rules_of shares)
   pub all : (rule : CarryRule) → test rule ≡ true
       → (list_any (same_rule rule) (rules_of shares) ≡ true) ⊎ (marks_by rule place rows ≡ [])
 

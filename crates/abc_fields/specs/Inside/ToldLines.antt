@@ -17,7 +17,7 @@ abbrev pub is_told : List ℕ → Bool
 is_told line = begins_with line (codes "T:") || begins_with line (codes "R:")
 
 -- two bytes say where a line begins, and where it ends
-pub record IsNear (line : Span) : Type 0 where
+pub record IsShortSpan (line : Span) : Type 0 where
   pub from : line.from < 2 ^ 16
   pub to : line.to < 2 ^ 16
 

@@ -21,8 +21,8 @@ plain_front byte rest =
     else front (lone_kind byte) 1
 
 -- what a byte is before a rest, where it is an item alone and begins none of the longer rows
-abbrev pub alone : ℕ → List ℕ → Option Kind
-alone byte rest =
+abbrev pub lone_row : ℕ → List ℕ → Option Kind
+lone_row byte rest =
     if is_note_name byte then (if begins is_octave_mark rest then None else Some Note)
     else if begins_longer_row byte then None
     else Some (lone_kind byte)

@@ -9,8 +9,8 @@ use Rattle.abc_notes.specs.Events.{Event}
 use Rattle.abc_notes.specs.Pitches.{borne, in_force}
 
 -- the octaves that have entries
-abbrev pub IsNear : ℤ → Type 0
-IsNear octave = (negsuc 7 ≤ℤ octave) × (octave <ℤ pos 8)
+abbrev pub IsNearOctave : ℤ → Type 0
+IsNearOctave octave = (negsuc 7 ≤ℤ octave) × (octave <ℤ pos 8)
 
 abbrev pub index_of : Letter → ℤ → ℕ
 index_of letter octave = 7 * nat_abs (octave +ℤ pos 8) + letter_number letter
@@ -19,17 +19,17 @@ abbrev pub held_in : List (Option Accidental) → Letter → ℤ → Option Acci
 held_in entries letter octave = slice_index_or entries (index_of letter octave) None
 
 -- the entries are what the bar bears so far, newest event first
-abbrev pub Holds : List (Option Accidental) → List Event → Type 0
-Holds entries past =
-    (letter : Letter) (octave : ℤ) → IsNear octave
+abbrev pub HoldsBar : List (Option Accidental) → List Event → Type 0
+HoldsBar entries past =
+    (letter : Letter) (octave : ℤ) → IsNearOctave octave
     → held_in entries letter octave ≡ borne past letter octave
 
 -- what is kept of a bar is that of its events so far, newest first
 pub record IsBarAfter (past : List Event) (b : Bar) : Type 0 where
   pub count : b.since ≡ length past
   pub current : b.signature ≡ in_force b.start past
-  pub near : Holds b.entries past
-  pub clear : b.has_near ≡ false → (letter : Letter) (octave : ℤ) → IsNear octave
+  pub near : HoldsBar b.entries past
+  pub clear : b.has_near ≡ false → (letter : Letter) (octave : ℤ) → IsNearOctave octave
       → held_in b.entries letter octave ≡ None
-  pub far : b.has_far ≡ false → (letter : Letter) (octave : ℤ) → (IsNear octave → ⊥)
+  pub far : b.has_far ≡ false → (letter : Letter) (octave : ℤ) → (IsNearOctave octave → ⊥)
       → borne past letter octave ≡ None

@@ -32,6 +32,6 @@ events_of None = []
 events_of (Some event) = event_of event ∷ []
 
 -- a note, if there is one, as a list
-abbrev pub notes_in : Option NoteToken → List SoundedNote
-notes_in None = []
-notes_in (Some token) = token_note token ∷ []
+abbrev pub notes_of_token : Option NoteToken → List SoundedNote
+notes_of_token None = []
+notes_of_token (Some token) = token_note token ∷ []

@@ -22,6 +22,6 @@ pub record IsKeptBar (b : Bar) (bar_events events : List Event) : Type 0 where
   pub few : b.since + length events ≤ longest_book
 
 -- the notes that a reader is asked for: all, or those that count
-abbrev pub asked_of : Bool → List SoundedNote → List SoundedNote
-asked_of true notes = notes
-asked_of false notes = counting notes
+abbrev pub asked_notes : Bool → List SoundedNote → List SoundedNote
+asked_notes true notes = notes
+asked_notes false notes = counting notes

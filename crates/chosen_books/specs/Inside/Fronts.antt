@@ -9,7 +9,7 @@ use Rattle.abc_fields.specs.declared.book.BookFault.{BookFault}
 use Rattle.abc_fields.specs.declared.book.BookFault.TheVariants.{BookTooLong, NoTune, BadTune}
 use Rattle.abc_fields.specs.declared.book.BookFault.TheVariants.{OutOfMemory}
 use Rattle.told_books.specs.Fates.{engraves}
-use Rattle.told_books.specs.ToldTunes.{fault_of}
+use Rattle.told_books.specs.ToldTunes.{fault_of_tune}
 use Rattle.chosen_books.specs.ChosenTunes.{longest_header}
 use Rattle.chosen_books.specs.declared.found_tunes.Front.{Front}
 
@@ -38,8 +38,8 @@ pub record IsFront (header between : List (List ℕ)) (front : Front) : Type 0 w
 
 -- a book with a tune of these lines alone is answered so, where there is memory
 abbrev pub IsJudged : ℕ → List (List ℕ) → Result (List ℕ) BookFault → Type 0
-IsJudged longest lines (Ok text) = (fault_of longest lines ≡ None) × (text ≡ joined lines)
-IsJudged longest lines (Err (BadTune place fault)) = fault_of longest lines ≡ Some fault
+IsJudged longest lines (Ok text) = (fault_of_tune longest lines ≡ None) × (text ≡ joined lines)
+IsJudged longest lines (Err (BadTune place fault)) = fault_of_tune longest lines ≡ Some fault
 IsJudged longest lines (Err OutOfMemory) = ⊤
 IsJudged longest lines (Err BookTooLong) = ⊥
 IsJudged longest lines (Err NoTune) = ⊥

@@ -10,11 +10,11 @@ abbrev pub full_part : ℕ
 full_part = 1000000
 
 -- texts of at most so many bytes
-abbrev pub AllFit : ℕ → List (List ℕ) → Type 0
-AllFit longest texts = AllByRecursion (λ text. length text ≤ longest) texts
+abbrev pub TextsFit : ℕ → List (List ℕ) → Type 0
+TextsFit longest texts = AllByRecursion (λ text. length text ≤ longest) texts
 
 -- a number for each text, and no more bytes than are told
-pub record IsPart (part : Part) : Type 0 where
+pub record IsBookPart (part : Part) : Type 0 where
   pub numbers : length part.numbers.items ≡ length part.texts.items
   pub bytes : length (written_book part.numbers.items part.texts.items) ≤ part.length
   pub few : part.length ≤ full_part + 64014

@@ -9,14 +9,14 @@ use Rattle.tune_asking.specs.Asking.{IsOnlyAsked}
 use Rattle.tune_desk.specs.DeskDeeds.{DeskDeed}
 use Rattle.tune_desk.specs.declared.desk.DeskFault.{DeskFault}
 use Rattle.tune_undo.specs.OldEntries.{StepValue, step_value}
-use Rattle.tune_undo.specs.OldItems.{Item, Top, IsLog, standing}
+use Rattle.tune_undo.specs.OldItems.{Item, Top, IsItemLog, standing}
 use Rattle.tune_undo.specs.OldTextLaws.{made_ready}
 use Rattle.tune_undo.specs.declared.old_entries.Part.{Part}
 use Rattle.tune_undo.specs.declared.old_entries.Step.{Step}
 use Rattle.desk_scenes.specs.FileAnswers.{Did}
 use Rattle.desk_scenes.specs.Visits.{Visits}
 use Rattle.desk_changes.specs.ChangedFiles.{Passage, IsChangedWithin}
-use Rattle.desk_changes.specs.OldChanges.{BookChange, changes_of}
+use Rattle.desk_changes.specs.OldChanges.{BookChange, changes_of_steps}
 use Rattle.desk_changes.specs.TakenBack.{BringsBack, BringsSome, UndoesEntry, BreaksOffEntry}
 use Rattle.desk_changes.specs.TakenBack.{UndoesEntries, BreaksOffEntries, UndoesChange}
 use Rattle.desk_changes.specs.TakenBack.{BreaksOffChange}
@@ -28,13 +28,13 @@ steps_of changes = map step_value changes
 
 -- the last change of some entries is that of the entries from a place on
 abbrev pub EndsFrom : ℕ → List Step → Type 0
-EndsFrom first changes = changes_of (steps_of changes)
-    ≡ changes_of (steps_of (take first changes)) ++ steps_of (drop first changes) ∷ []
+EndsFrom first changes = changes_of_steps (steps_of changes)
+    ≡ changes_of_steps (steps_of (take first changes)) ++ steps_of (drop first changes) ∷ []
 
 -- the entries that stand in a book that was read
 pub record AreStanding (book : List ℕ) (steps : List StepValue) : Type 0 where
   pub items : List Item
-  pub log : IsLog Top (made_ready book) items
+  pub log : IsItemLog Top (made_ready book) items
   pub are : steps ≡ standing items
 
 -- the book was read, and these stand in it

@@ -10,17 +10,17 @@ use Rattle.tune_desk.specs.DeskDeeds.{DeskDeed}
 use Rattle.tune_desk.specs.OldTexts.{GrowsNot}
 use Rattle.desk_scenes.specs.FileAnswers.{Did}
 use Rattle.desk_scenes.specs.Visits.{Visits}
-use Rattle.desk_changes.specs.ChangedFiles.{Passage, BringsAbout, ChangesBy, LeavesAll}
+use Rattle.desk_changes.specs.ChangedFiles.{Passage, KeepsAndBringsAbout, ChangesBy, LeavesAll}
 use Rattle.desk_changes.specs.ChangedFiles.{IsChangedWithin}
 
 -- Turns were brought about behind their entry; or this was not kept, and nothing was done; or a
 -- refusal ended them.
-abbrev pub Turns : {D T A : Type 0} → disk.Ghosts D → List ℕ → EntryKind → List Turn
+abbrev pub TurnsBehindEntry : {D T A : Type 0} → disk.Ghosts D → List ℕ → EntryKind → List Turn
     → Result T A → Passage D → Type 0
-Turns disks file kind turns result course = MatchResult result
-    (λ _. BringsAbout disks file kind turns (Ok tt) course)
+TurnsBehindEntry disks file kind turns result course = MatchResult result
+    (λ _. KeepsAndBringsAbout disks file kind turns (Ok tt) course)
     (λ _. ((course.finish ≡ course.start) × GrowsNot file course.was course.now)
-    ⊎ ((refusal : Refusal) × BringsAbout disks file kind turns (Err refusal) course))
+    ⊎ ((refusal : Refusal) × KeepsAndBringsAbout disks file kind turns (Err refusal) course))
 
 -- The same behind a look, by which the turns were found.
 abbrev pub Alters : {D T A : Type 0} → disk.Ghosts D → List ℕ → EntryKind

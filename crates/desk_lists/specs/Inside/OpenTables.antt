@@ -10,7 +10,7 @@ abbrev pub table_bytes : {A : Type 0} → Writer (Vec ℕ A) → List ℕ
 table_bytes table = (writer_under table).items ++ writer_pending table
 
 -- a table between two records
-pub record IsOpen {A : Type 0} (table : Writer (Vec ℕ A)) : Type 0 where
+pub record IsOpenTable {A : Type 0} (table : Writer (Vec ℕ A)) : Type 0 where
   pub setup : writer_setup table ≡ default_writer
   pub fields : fields_written table ≡ 0
   pub wrote : has_written table ≡ false

@@ -5,21 +5,21 @@ use Rattle.desk_loads.specs.declared.script_console.Replies.{Replies}
 use Rattle.desk_loads.specs.declared.script_console.ScriptConsole.{ScriptConsole}
 use Rattle.desk_loads.specs.declared.script_console.ScriptRest.{ScriptRest}
 
-abbrev pub output_told : Replies → OutputTold
-output_told replies = record {
+abbrev pub replies_told : Replies → OutputTold
+replies_told replies = record {
   bytes = Some replies.bytes.items;
   faults = length replies.faults.items;
   flushed = replies.is_flushed;
 }
 
-abbrev pub look_told : (ScriptRest × Replies) → Look
-look_told look = record { left = Some look.0.bytes.now; output = output_told look.1 }
+abbrev pub script_look_told : (ScriptRest × Replies) → Look
+script_look_told look = record { left = Some look.0.bytes.now; output = replies_told look.1 }
 
-abbrev pub input_told : ScriptConsole → InputTold
-input_told console = record {
+abbrev pub script_input_told : ScriptConsole → InputTold
+script_input_told console = record {
   left = Some console.rest.bytes.now;
   faults = 0;
-  looks = map look_told console.looks.items;
+  looks = map script_look_told console.looks.items;
 }
 
 -- All of a script is left, and there is no reply yet.

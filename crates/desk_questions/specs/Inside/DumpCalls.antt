@@ -1,6 +1,6 @@
 -- What the calls that write a dump come to.
 use Rattle.std.specs.Prelude.{◌≡◌, ℕ, List, [], ◌∷◌, ◌++◌, Result, Ok, Err}
-use Rattle.tune_sets.specs.Calls.{places_of, rows_of}
+use Rattle.tune_sets.specs.Calls.{places_of, set_rows_of}
 use Rattle.tune_sets.specs.declared.set_rows.SetRow.{SetRow}
 use Rattle.tune_sets.specs.declared.faults.SetFault.{SetFault}
 use Rattle.tune_sets.specs.declared.faults.SetFault.TheVariants.{NoSuchSet}
@@ -10,7 +10,8 @@ use Rattle.tune_store.specs.State.{State}
 use Rattle.tune_store.specs.declared.tune.Tune.{Tune}
 use Rattle.tune_store.specs.declared.index_rows.IndexRow.{IndexRow}
 use Rattle.tune_store.specs.declared.command.Refusal.{Refusal}
-use Rattle.desk_questions.specs.Dumps.{book_of, tune_commands, set_commands, sets_commands}
+use Rattle.desk_questions.specs.Dumps.{book_of, tune_dump_commands, set_dump_commands}
+use Rattle.desk_questions.specs.Dumps.{sets_commands}
 use Rattle.desk_questions.specs.Dumps.{script_bytes}
 use Rattle.desk_questions.specs.Told.{tunes_at}
 use Rattle.tune_asking.specs.AskingCalls.{Meaning}
@@ -22,19 +23,19 @@ pub record Brings (last : ℕ) (tune : Tune) (piece : List Tune) (held : List �
     (old new : List ℕ) : Type 0 where
   pub next : List Tune
   pub holds : held ≡ book_of next
-  pub same : (rest : List Tune) → old ++ script_bytes (tune_commands last piece (tune ∷ rest))
-      ≡ new ++ script_bytes (tune_commands tune.number next rest)
+  pub same : (rest : List Tune) → old ++ script_bytes (tune_dump_commands last piece (tune ∷ rest))
+      ≡ new ++ script_bytes (tune_dump_commands tune.number next rest)
 
 -- so of each piece that these bytes are the book of
-abbrev pub GoesOn : ℕ → Tune → List ℕ → List ℕ → List ℕ → List ℕ → Type 0
-GoesOn last tune old_piece new_piece old new = (piece : List Tune) → old_piece ≡ book_of piece
+abbrev pub BringsEach : ℕ → Tune → List ℕ → List ℕ → List ℕ → List ℕ → Type 0
+BringsEach last tune old_piece new_piece old new = (piece : List Tune) → old_piece ≡ book_of piece
     → Brings last tune piece new_piece old new
 
 -- the commands for the tunes of these numbers, written behind some bytes
 pub record AreDumped (numbers old new : List ℕ) (state : State) : Type 0 where
   pub tunes : List Tune
   pub at : tunes_at numbers state.tunes ≡ Ok tunes
-  pub are : new ≡ old ++ script_bytes (tune_commands 0 [] tunes)
+  pub are : new ≡ old ++ script_bytes (tune_dump_commands 0 [] tunes)
 
 abbrev pub tunes_dumped : List ℕ → List ℕ → List ℕ → Meaning (Unit {0})
 tunes_dumped numbers old new = record {
@@ -44,27 +45,28 @@ tunes_dumped numbers old new = record {
 
 -- SET LISTS
 -- the rows of the tunes at the places of a set list that was found
-abbrev pub rows_told : List Tune → Result (List ℕ) SetFault → Result (List IndexRow) Refusal
-rows_told tunes (Ok numbers) = Ok (rows_at tunes numbers)
-rows_told tunes (Err why) = Err (refusal_of_sets why)
+abbrev pub rows_of_set : List Tune → Result (List ℕ) SetFault → Result (List IndexRow) Refusal
+rows_of_set tunes (Ok numbers) = Ok (rows_at tunes numbers)
+rows_of_set tunes (Err why) = Err (refusal_of_sets why)
 
 -- those of the set list of a name
 abbrev pub places_told : List ℕ → State → Result (List IndexRow) Refusal
-places_told name state = rows_told state.tunes (places_of name state.sets)
+places_told name state = rows_of_set state.tunes (places_of name state.sets)
 
 -- the commands for the set list of a name, written behind some bytes
 abbrev pub set_dumped : List ℕ → List ℕ → List ℕ → Meaning (Unit {0})
 set_dumped name old new = record {
-  good = λ state value. new ≡ old ++ script_bytes (set_commands name (places_of name state.sets));
+  good = λ state value. new ≡ old
+      ++ script_bytes (set_dump_commands name (places_of name state.sets));
   refused = λ state refusal. places_of name state.sets ≡ Err NoSuchSet;
 }
 
 -- those for the set lists of these rows, where these are all
 abbrev pub each_dumped : List SetRow → List ℕ → List ℕ → Meaning (Unit {0})
 each_dumped rows old new = record {
-  good = λ state value. rows ≡ rows_of state.sets
+  good = λ state value. rows ≡ set_rows_of state.sets
       → new ≡ old ++ script_bytes (sets_commands state.sets);
-  refused = λ state refusal. rows ≡ rows_of state.sets → ⊥;
+  refused = λ state refusal. rows ≡ set_rows_of state.sets → ⊥;
 }
 
 -- those for all set lists

@@ -21,22 +21,22 @@ use Rattle.tune_store.specs.declared.tune_store.TuneStore.{Ghosts}
 use Rattle.tune_asking.specs.Asking.{IsOnlyAsked, IsFault}
 use Rattle.tune_asking.specs.AskingCalls.{Meaning}
 use Rattle.desk_questions.specs.Conditions.{gives, has_title, asks_nothing}
-use Rattle.desk_questions.specs.Told.{found, tunes_at}
+use Rattle.desk_questions.specs.Told.{found_by_all, tunes_at}
 use Rattle.desk_terms.specs.declared.condition.Condition.{Condition}
 
 -- NUMBERS
 -- whether a number is among these
-abbrev pub is_among : List ℕ → ℕ → Bool
-is_among numbers number = list_any (λ other. other == number) numbers
+abbrev pub has_number : List ℕ → ℕ → Bool
+has_number numbers number = list_any (λ other. other == number) numbers
 
 -- whether a tune of this number passes a test of its text
 abbrev pub passes : (List ℕ → Bool) → List Tune → ℕ → Bool
 passes test tunes number = list_any (λ tune. (tune.number == number) && test tune.text) tunes
 
 -- numbers to which those of the tunes that pass were added
-abbrev pub Adds : List ℕ → List ℕ → (List ℕ → Bool) → List Tune → Type 0
-Adds old new test tunes = (number : ℕ)
-    → is_among new number ≡ (is_among old number || passes test tunes number)
+abbrev pub AddsPassing : List ℕ → List ℕ → (List ℕ → Bool) → List Tune → Type 0
+AddsPassing old new test tunes = (number : ℕ)
+    → has_number new number ≡ (has_number old number || passes test tunes number)
 
 -- whether a text has a title that a condition gives
 abbrev pub has_some_title : Condition → List ℕ → Bool
@@ -51,28 +51,28 @@ has_row_title condition row = option_map_or (has_title condition) row.title fals
 abbrev pub added_by_query : Query → List ℕ → List ℕ → Meaning (Unit {0})
 added_by_query query old new = record {
   good = λ state value. (is_bad query ≡ false)
-      × Adds old new (matches (notes_of state.layout) query) state.tunes;
+      × AddsPassing old new (matches (notes_of state.layout) query) state.tunes;
   refused = λ state refusal. (is_bad query ≡ true) × (refusal ≡ BadQuery);
 }
 
 -- the numbers of the tunes that have such a title are added
 abbrev pub added_by_title : Condition → List ℕ → List ℕ → Meaning (Unit {0})
 added_by_title condition old new = record {
-  good = λ state value. Adds old new (has_some_title condition) state.tunes;
+  good = λ state value. AddsPassing old new (has_some_title condition) state.tunes;
   refused = λ state refusal. ⊥;
 }
 
 -- the numbers of the tunes that some of these queries find, none of which asks for nothing
 pub record AreFoundBySome (queries : List Query) (state : State) (numbers : List ℕ) : Type 0 where
   pub ask : list_any is_bad queries ≡ false
-  pub are : (number : ℕ) → is_among numbers number
+  pub are : (number : ℕ) → has_number numbers number
       ≡ passes (λ text. list_any (λ query. matches (notes_of state.layout) query text) queries)
       state.tunes number
 
 -- numbers of the tunes that a condition gives
-pub record AreGiven (condition : Condition) (state : State) (numbers : List ℕ) : Type 0 where
+pub record AreNumbersGiven (condition : Condition) (state : State) (numbers : List ℕ) : Type 0 where
   pub asks : asks_nothing condition ≡ false
-  pub gives : (number : ℕ) → is_among numbers number
+  pub gives : (number : ℕ) → has_number numbers number
       ≡ passes (gives (notes_of state.layout) condition) state.tunes number
 
 -- numbers that rise, those of the tunes that all conditions give, where the labels are these tunes'
@@ -81,7 +81,7 @@ pub record AreFound (conditions : List Condition) (labels : List Label) (state :
   pub asks : list_any asks_nothing conditions ≡ false
   pub rise : LabelsRise 0 labels
   pub are : labels ≡ labels_of state.tunes
-      → numbers ≡ map (λ tune. tune.number) (found conditions state)
+      → numbers ≡ map (λ tune. tune.number) (found_by_all conditions state)
 
 -- the rows of the tunes of these numbers
 pub record AreRowsAt (numbers : List ℕ) (state : State) (rows : List IndexRow) : Type 0 where

@@ -9,7 +9,7 @@ use Rattle.tune_store.specs.declared.command.Refusal.{Refusal}
 use Rattle.tune_store.specs.declared.command.Refusal.TheVariants.{OutOfMemory, BadQuery}
 use Rattle.desk_lists.specs.Folding.{folded_title}
 use Rattle.desk_lists.specs.FoldedWords.{folded_words}
-use Rattle.desk_questions.specs.Conditions.{is_too_long}
+use Rattle.desk_questions.specs.Conditions.{is_query_too_long}
 use Rattle.desk_terms.specs.declared.condition.Condition.{Condition}
 use Rattle.desk_terms.specs.declared.condition.Condition.TheVariants.{Title, Within}
 
@@ -20,10 +20,10 @@ looks_at_titles (Within words) = true
 looks_at_titles condition = false
 
 -- the words that are looked for, folded
-abbrev pub words_of : Condition → List (List ℕ)
-words_of (Title words) = folded_title (sorting_title (string_bytes words)) ∷ []
-words_of (Within words) = folded_words words.items
-words_of condition = []
+abbrev pub words_sought : Condition → List (List ℕ)
+words_sought (Title words) = folded_title (sorting_title (string_bytes words)) ∷ []
+words_sought (Within words) = folded_words words.items
+words_sought condition = []
 
 -- the bytes as the text of a query, or out of memory, or too many
 abbrev pub MakesText : List ℕ → Result (List ℕ) Refusal → Type 0
@@ -34,14 +34,14 @@ MakesText bytes result = MatchResult result
 -- the query, or out of memory, or too long
 abbrev pub MakesQuery : Query → Result Query Refusal → Type 0
 MakesQuery query result = MatchResult result
-    (λ made. (made ≡ query) × (is_too_long query ≡ false))
-    (λ refusal. (refusal ≡ OutOfMemory) ⊎ ((refusal ≡ BadQuery) × (is_too_long query ≡ true)))
+    (λ made. (made ≡ query) × (is_query_too_long query ≡ false))
+    (λ refusal. (refusal ≡ OutOfMemory) ⊎ ((refusal ≡ BadQuery) × (is_query_too_long query ≡ true)))
 
 -- the queries are made
 abbrev pub AreMade : List Query → List Query → Type 0
-AreMade queries made = (made ≡ queries) × (list_any is_too_long queries ≡ false)
+AreMade queries made = (made ≡ queries) × (list_any is_query_too_long queries ≡ false)
 
 -- they are not made: out of memory, or one is too long
 abbrev pub AreNotMade : List Query → Refusal → Type 0
 AreNotMade queries refusal = (refusal ≡ OutOfMemory)
-    ⊎ ((refusal ≡ BadQuery) × (list_any is_too_long queries ≡ true))
+    ⊎ ((refusal ≡ BadQuery) × (list_any is_query_too_long queries ≡ true))

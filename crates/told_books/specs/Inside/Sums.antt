@@ -7,20 +7,20 @@ use Rattle.abc_fields.specs.declared.carry_rules.CarryRule.TheVariants.{Never}
 use Rattle.told_books.specs.declared.sums.RuleSum.{RuleSum}
 
 -- the bytes of the lines that such a tune carries, by the sums of the rules
-abbrev pub sum_carried : (ℕ → Bool) → List RuleSum → ℕ
-sum_carried owns [] = 0
-sum_carried owns (sum ∷ sums) =
-    (if carries owns sum.rule then sum.length else 0) + sum_carried owns sums
+abbrev pub sum_carried_by : (ℕ → Bool) → List RuleSum → ℕ
+sum_carried_by owns [] = 0
+sum_carried_by owns (sum ∷ sums) =
+    (if carries owns sum.rule then sum.length else 0) + sum_carried_by owns sums
 
 -- the bytes of all these sums
-abbrev pub sum_all : List RuleSum → ℕ
-sum_all [] = 0
-sum_all (sum ∷ sums) = sum.length + sum_all sums
+abbrev pub sum_of_rules : List RuleSum → ℕ
+sum_of_rules [] = 0
+sum_of_rules (sum ∷ sums) = sum.length + sum_of_rules sums
 
 -- these sums are those of the lines of this file header, each with its line feed
-abbrev pub AreSums : List RuleSum → List (List ℕ) → Type 0
-AreSums sums header = (owns : ℕ → Bool)
-    → sum_carried owns sums ≡ length (joined (carried owns Never header))
+abbrev pub AreHeaderSums : List RuleSum → List (List ℕ) → Type 0
+AreHeaderSums sums header = (owns : ℕ → Bool)
+    → sum_carried_by owns sums ≡ length (joined (carried owns Never header))
 
 -- the lines that are left of the first block, where it has begun or has not
 abbrev pub block_left : Bool → List (List ℕ) → List (List ℕ)

@@ -72,11 +72,11 @@ pub record StaysKept {D : Type 0} (honest : D → Type 0) (state : D → DiskSta
 -- THE ARCHIVE
 -- A fault of pages as a refusal. Pages of an honest disk are never too few for an archive, so full
 -- ones tell of a device that failed.
-abbrev pub refusal_of : Fault → Refusal
-refusal_of FileFull = refusal.Device
-refusal_of OutOfMemory = refusal.OutOfMemory
-refusal_of Device = refusal.Device
-refusal_of Closed = refusal.Closed
+abbrev pub refusal_of_pages : Fault → Refusal
+refusal_of_pages FileFull = refusal.Device
+refusal_of_pages OutOfMemory = refusal.OutOfMemory
+refusal_of_pages Device = refusal.Device
+refusal_of_pages Closed = refusal.Closed
 
 -- whether it closes the archive
 abbrev pub closes : Fault → Bool

@@ -10,7 +10,7 @@ use Rattle.tune_archive.specs.Shelf.{Shelf, state_of}
 use Rattle.tune_archive.specs.declared.archive.Fetched.{Fetched}
 
 -- Where its disk is honest, what it knows in memory is that of its state.
-pub record Tells {D : Type 0} (honest : D → Type 0) (state : D → DiskState) (archive : Shelf D)
+pub record KnowsState {D : Type 0} (honest : D → Type 0) (state : D → DiskState) (archive : Shelf D)
     : Type 0 where
   pub was_honest : HonestAt honest archive.pages.disk
   pub labels : labels_in archive.contents.rows.items ≡ labels_of (state_of state archive).tunes

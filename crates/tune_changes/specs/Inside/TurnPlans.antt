@@ -13,12 +13,12 @@ use Rattle.tune_store.specs.declared.command.Refusal.{Refusal}
 use Rattle.tune_store.specs.declared.command.Refusal.TheVariants.{Unknown}
 use Rattle.tune_asking.specs.Asking.{IsFault}
 use Rattle.tune_asking.specs.AskingCalls.{Meaning}
-use Rattle.tune_changes.specs.Planning.{first_unknown, tune_gone, with_more}
+use Rattle.tune_changes.specs.Planning.{first_unknown, tune_gone, turn_with_more}
 use Rattle.tune_changes.specs.declared.turns.Turn.{Turn}
 
 -- the numbers at the places of the set of a name
-abbrev pub numbers_in : List ℕ → List TuneSet → Option (List ℕ)
-numbers_in name sets = option_map (λ set. set.numbers) (set_at name sets)
+abbrev pub numbers_of_set : List ℕ → List TuneSet → Option (List ℕ)
+numbers_of_set name sets = option_map (λ set. set.numbers) (set_at name sets)
 
 -- turns are those of a plan
 abbrev pub turns_told : (State → Result (List Turn) Refusal) → Meaning (Vec Turn)
@@ -47,7 +47,7 @@ all_gone gone held [] state = Ok []
 all_gone gone [] (number ∷ numbers) state = Ok []
 all_gone gone (name ∷ held) (number ∷ numbers) state =
     if is_among number gone then Err (Unknown number)
-    else with_more (tune_gone number name (tune_at number state.tunes))
+    else turn_with_more (tune_gone number name (tune_at number state.tunes))
     (all_gone (gone ++ number ∷ []) held numbers state)
 
 -- the tune at a place of these numbers goes, unless it went before

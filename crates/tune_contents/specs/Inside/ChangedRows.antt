@@ -4,7 +4,7 @@ use Rattle.std.specs.List.{remove, range_with_len}
 use Rattle.index_keys.specs.Entries.{Entry}
 use Rattle.tune_format.specs.Written.{number_entries, row_entry}
 use Rattle.tune_format.specs.declared.rows.Row.{Row}
-use Rattle.tune_contents.specs.Inside.TuneRows.{numbers_in}
+use Rattle.tune_contents.specs.Inside.TuneRows.{numbers_of_rows}
 use Rattle.tune_contents.specs.declared.next.RowChange.{RowChange}
 use Rattle.tune_contents.specs.declared.next.RowChange.TheVariants.{Stay, Add, Put, Take, Move}
 use Rattle.tune_contents.specs.declared.next.RowChange.TheVariants.{Whole}
@@ -16,7 +16,7 @@ AddsRow number was is = (row : Row) × (is ≡ was ++ row ∷ []) × (row.number
 
 abbrev pub AddsRows : ℕ → ℕ → List Row → List Row → Type 0
 AddsRows first count was is = (more : List Row) × (is ≡ was ++ more)
-    × (numbers_in more ≡ range_with_len first count)
+    × (numbers_of_rows more ≡ range_with_len first count)
 
 abbrev pub PutsRow : ℕ → ℕ → List Row → List Row → Type 0
 PutsRow place number was is = (row : Row) × (place < length was)
@@ -41,7 +41,7 @@ IsBehind change rows these = ⊥
 -- another.
 abbrev pub IsMadeOf : RowChange → List Row → Type 0
 IsMadeOf (Add more) rows =
-    (first : ℕ) × (count : ℕ) × (numbers_in more.items ≡ range_with_len first count)
+    (first : ℕ) × (count : ℕ) × (numbers_of_rows more.items ≡ range_with_len first count)
 IsMadeOf (Whole all) rows = (first : ℕ) × (count : ℕ) × AddsRows first count rows all.items
 IsMadeOf change rows = IsSingle change rows
 

@@ -7,7 +7,7 @@ use Rattle.tune_sets.specs.Calls.{create_set, add_number, cut_place, drop_set}
 use Rattle.tune_sets.specs.Sets.{holder}
 use Rattle.tune_sets.specs.declared.set_lists.TuneSet.{TuneSet}
 use Rattle.tune_store.specs.Plans.{changed_tunes, CanChange}
-use Rattle.tune_store.specs.State.{IsTunes, RisesFrom}
+use Rattle.tune_store.specs.State.{IsTunes, NumbersRiseFrom}
 use Rattle.tune_store.specs.declared.tune.Tune.{Tune}
 use Rattle.tune_store.specs.declared.layout.Layout.{Layout}
 use Rattle.tune_store.specs.declared.plans.Change.{Change}
@@ -46,7 +46,7 @@ changes_sets change sets = true
 -- stay.
 abbrev pub LaysChange : Stand → Stand → List Row → List Row → Change → Type 0
 LaysChange old new rows left change = (ahead : List Part) (tunes : List Tune)
-    → RisesFrom 0 tunes → HoldsTunes old ahead tunes rows
+    → NumbersRiseFrom 0 tunes → HoldsTunes old ahead tunes rows
     → HoldsTunes new ahead (changed_tunes change tunes) left
 
 -- some tunes within the limits stand so

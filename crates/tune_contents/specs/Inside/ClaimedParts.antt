@@ -22,7 +22,7 @@ use Rattle.tune_store.specs.Limits.{greatest_revision, longest_text, notes_of}
 use Rattle.tune_store.specs.State.{State, IsTune}
 use Rattle.tune_store.specs.declared.layout.Layout.{Layout}
 use Rattle.tune_store.specs.declared.tune.Tune.{Tune}
-use Rattle.tune_format.specs.Filed.{HoldTunes, archive_parts, firsts_of, rows_of}
+use Rattle.tune_format.specs.Filed.{HoldTunes, archive_parts, firsts_of, rows_of_tunes}
 use Rattle.tune_format.specs.Searched.{AreSearchIndexes}
 use Rattle.tune_format.specs.States.{IsStateOf}
 use Rattle.tune_format.specs.Written.{IsRoot, number_entries, written_text}
@@ -30,7 +30,7 @@ use Rattle.tune_format.specs.declared.root.Firsts.{Firsts}
 use Rattle.tune_format.specs.declared.rows.Row.{Row}
 use Rattle.tune_contents.specs.Most.{most_tune_pages}
 use Rattle.tune_contents.specs.Inside.ClaimedRows.{HaveFew}
-use Rattle.tune_contents.specs.Inside.TuneRows.{numbers_in}
+use Rattle.tune_contents.specs.Inside.TuneRows.{numbers_of_rows}
 
 -- each page has the bytes of a block
 abbrev pub AreBlocks : List (List ℕ) → Type 0
@@ -91,7 +91,7 @@ pub record ClaimsSearch (most : ℕ) (now : ClaimedPages) (front : List Part)
   pub only : (other : SearchParts) (others : SearchRuns) (more : List Part)
       → AreParts now.pages (front ++ (parts_of_search other ++ more))
       → others.notes ≡ search.runs.notes → HoldEachAtMost most other others
-      → loaded.firsts_of other ≡ firsts → (other ≡ parts) × (others ≡ search.runs)
+      → loaded.search_firsts_of other ≡ firsts → (other ≡ parts) × (others ≡ search.runs)
 
 pub record IsSearchThere (notes most : ℕ) (pages : List (List ℕ)) (front : List Part)
     (firsts : SearchFirsts) : Type 0 where
@@ -101,7 +101,7 @@ pub record IsSearchThere (notes most : ℕ) (pages : List (List ℕ)) (front : L
   pub more : List Part
   pub are : AreParts pages (front ++ (parts_of_search parts ++ more))
   pub holds : HoldEachAtMost most parts runs
-  pub are_first : loaded.firsts_of parts ≡ firsts
+  pub are_first : loaded.search_firsts_of parts ≡ firsts
 
 -- WHAT THE ROOT NAMES
 -- the entries of the four search indexes
@@ -122,7 +122,7 @@ pub record HasLists {pages : List (List ℕ)} {state : State} (is : IsStateOf pa
   pub are_numbers : is.filed.numbers ≡ numbers
   pub are_searches : is.filed.searches ≡ searches
   pub are_sets : is.filed.set_lists ≡ set_lists
-  pub are_entries : number_entries (rows_of state.tunes is.filed.texts) ≡ entries
+  pub are_entries : number_entries (rows_of_tunes state.tunes is.filed.texts) ≡ entries
   pub are_runs : runs_filed is.filed.are_searches ≡ runs
 
 -- The root says the layout, and names the index of numbers, the search indexes and the set lists,
@@ -236,7 +236,7 @@ pub record TunesStand (site : TuneSite) (rows : List Row) (tunes : List Tune)
   pub sized : AreBlocks site.pages
   pub are : AreParts site.pages (site.front ++ texts)
   pub hold : HoldTunes texts tunes
-  pub listed : number_entries (rows_of tunes texts) ≡ number_entries rows
+  pub listed : number_entries (rows_of_tunes tunes texts) ≡ number_entries rows
   pub each : AllByRecursion (IsTune site.layout) tunes
   pub keys : StandAtKeys site.runs tunes
 
@@ -248,7 +248,7 @@ AreTunesThere site rows =
 -- So they do, and no other number stands in the search indexes, which have few entries.
 pub record AreRowsThere (site : TuneSite) (rows : List Row) : Type 0 where
   pub few : HaveFew site.runs
-  pub known : AreAllKnown (numbers_in rows) site.runs
+  pub known : AreAllKnown (numbers_of_rows rows) site.runs
   pub tunes : AreTunesThere site rows
 
 -- Behind parts that were claimed, the tunes of these rows were.
@@ -258,7 +258,7 @@ pub record TunesClaimed (site : TuneSite) (claimed : List Bool) (rows : List Row
   pub texts : List Part
   pub has : HasClaimed site.pages claimed (site.front ++ texts)
   pub hold : HoldTunes texts tunes
-  pub rows_are : rows ≡ rows_of tunes texts
+  pub rows_are : rows ≡ rows_of_tunes tunes texts
   pub each : AllByRecursion (IsTune site.layout) tunes
   pub keys : StandAtKeys site.runs tunes
 

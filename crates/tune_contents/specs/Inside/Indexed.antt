@@ -12,7 +12,7 @@ use Rattle.tune_store.specs.State.{IsTunes}
 use Rattle.tune_store.specs.declared.layout.Layout.{Layout}
 use Rattle.tune_store.specs.declared.plans.Change.{Change}
 use Rattle.tune_store.specs.declared.tune.Tune.{Tune}
-use Rattle.tune_format.specs.Filed.{HoldTunes, archive_parts, numbered_texts, rows_of}
+use Rattle.tune_format.specs.Filed.{HoldTunes, archive_parts, numbered_texts, rows_of_tunes}
 use Rattle.tune_format.specs.RootOffsets.{number_bytes}
 use Rattle.tune_format.specs.Written.{number_entries}
 use Rattle.tune_format.specs.declared.rows.Row.{Row}
@@ -37,10 +37,10 @@ pub record StandsAround (s : Stand) (keeps : Keeps) (tunes : List Tune) (set_lis
   pub texts : List Part
   pub holds : HoldsParts s (archive_parts numbers searches set_lists texts)
   pub keeps_numbers : KeepsIndex key_bytes keeps.numbers numbers
-      (number_entries (rows_of tunes texts))
+      (number_entries (rows_of_tunes tunes texts))
   pub keeps_searches : KeepsTexts keeps.searches searches (numbered_texts tunes)
   pub are_tunes : HoldTunes texts tunes
-  pub listed : keeps.rows ≡ rows_of tunes texts
+  pub listed : keeps.rows ≡ rows_of_tunes tunes texts
 
 -- So stand tunes within the limits.
 pub record HoldsIndexed (layout : Layout) (s : Stand) (keeps : Keeps) (tunes : List Tune)

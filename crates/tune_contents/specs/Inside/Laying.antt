@@ -8,7 +8,7 @@ use Rattle.tune_sets.specs.SetBytes.{written_sets}
 use Rattle.tune_sets.specs.declared.set_lists.TuneSet.{TuneSet}
 use Rattle.tune_store.specs.declared.layout.Layout.{Layout}
 use Rattle.tune_store.specs.declared.tune.Tune.{Tune}
-use Rattle.tune_format.specs.Filed.{HoldTunes, rows_of}
+use Rattle.tune_format.specs.Filed.{HoldTunes, rows_of_tunes}
 use Rattle.tune_format.specs.Written.{IsRoot}
 use Rattle.tune_format.specs.declared.root.Firsts.{Firsts}
 use Rattle.tune_format.specs.declared.rows.Row.{Row}
@@ -26,7 +26,7 @@ pub record HoldsTunes (s : Stand) (ahead : List Part) (tunes : List Tune) (rows 
   pub texts : List Part
   pub holds : HoldsParts s (ahead ++ texts)
   pub are_tunes : HoldTunes texts tunes
-  pub listed : rows ≡ rows_of tunes texts
+  pub listed : rows ≡ rows_of_tunes tunes texts
 
 -- some tunes stand so
 abbrev pub HoldsSomeTunes : Stand → List Row → Type 0

@@ -6,9 +6,9 @@ use Rattle.index_keys.specs.Holdings.{AreSmall, IsWithout, SameMembers}
 use Rattle.tune_pages.specs.Faults.{free_pages, pages_for}
 use Rattle.tune_pages.specs.Stand.{Stand}
 use Rattle.tune_parts.specs.Parts.{Part}
-use Rattle.tune_search.specs.SearchPages.{leaves_of, most_entries}
+use Rattle.tune_search.specs.SearchPages.{leaf_count, most_entries}
 use Rattle.tune_search.specs.Searches.{AreRunsOf, HoldsTexts, SearchParts, SearchRuns, SearchShape}
-use Rattle.tune_search.specs.Searches.{numbered}
+use Rattle.tune_search.specs.Searches.{texts_numbered}
 use Rattle.tune_store.specs.declared.tune.Tune.{Tune}
 use Rattle.tune_store.specs.declared.plans.Change.{Change}
 use Rattle.tune_store.specs.declared.plans.Change.TheVariants.{Add, Put, Take, Move}
@@ -49,7 +49,7 @@ IsOldTune change tunes old = old ≡ None
 -- WHAT GOES AND WHAT COMES
 -- The texts that come in with a change, with their numbers; `old` is the tune that it moves.
 abbrev pub coming : Change → Option (ℕ × List ℕ) → List (ℕ × List ℕ)
-coming (Add first texts) old = numbered first texts.items
+coming (Add first texts) old = texts_numbered first texts.items
 coming (Put place tune) old = (tune.number, tune.text) ∷ []
 coming (Move number to) (Some old) = (to, old.1) ∷ []
 coming change old = []
@@ -125,7 +125,7 @@ abbrev pub IsFullForTexts : Stand → SearchShape → Option SearchRuns → Type
 IsFullForTexts s shape come = (before after : List Part) (parts : SearchParts)
     (tunes more : List (ℕ × List ℕ)) → AreSmall tunes → PutsIn come more
     → HoldsTexts s shape before after parts tunes
-    → free_pages s.used + leaves_of shape < most_entries * length (tunes ++ more)
+    → free_pages s.used + leaf_count shape < most_entries * length (tunes ++ more)
 
 -- Whatever tunes the search indexes hold, they then hold those that are left and those that come;
 -- all other parts stay.

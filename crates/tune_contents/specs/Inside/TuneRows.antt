@@ -1,7 +1,7 @@
 -- Rows of tunes, found by number.
 use Rattle.std.specs.Prelude.{ℕ, ◌<◌, ◌≤◌, List, length, map}
 use Rattle.std.specs.List.{AllWithin}
-use Rattle.tune_store.specs.State.{RisesFrom}
+use Rattle.tune_store.specs.State.{NumbersRiseFrom}
 use Rattle.tune_store.specs.TuneSteps.{moved}
 use Rattle.tune_store.specs.declared.tune.Tune.{Tune}
 use Rattle.tune_pages.specs.Stand.{Stand}
@@ -10,8 +10,8 @@ use Rattle.tune_format.specs.declared.rows.Row.{Row}
 use Rattle.tune_contents.specs.Inside.Laying.{HoldsTunes}
 
 -- the numbers of rows
-abbrev pub numbers_in : List Row → List ℕ
-numbers_in rows = map (λ row. row.number) rows
+abbrev pub numbers_of_rows : List Row → List ℕ
+numbers_of_rows rows = map (λ row. row.number) rows
 
 -- the place of the first row of a greater number, or behind the last
 pub record IsRowAfter (number : ℕ) (rows : List Row) (place : ℕ) : Type 0 where
@@ -22,5 +22,5 @@ pub record IsRowAfter (number : ℕ) (rows : List Row) (place : ℕ) : Type 0 wh
 -- belongs; no page changes.
 abbrev pub MovesTunes : List Row → List Row → ℕ → ℕ → Type 0
 MovesTunes rows left number to = (s : Stand) (ahead : List Part) (tunes : List Tune)
-    → RisesFrom 0 tunes → HoldsTunes s ahead tunes rows
+    → NumbersRiseFrom 0 tunes → HoldsTunes s ahead tunes rows
     → HoldsTunes s ahead (moved number to tunes) left

@@ -11,7 +11,7 @@ use Rattle.tune_store.specs.declared.tune.Tune.{Tune}
 use Rattle.tune_format.specs.Filed.{numbered_texts}
 use Rattle.tune_format.specs.declared.rows.Row.{Row}
 use Rattle.tune_contents.specs.Inside.Laying.{HoldsTunes}
-use Rattle.tune_contents.specs.Inside.TuneRows.{numbers_in}
+use Rattle.tune_contents.specs.Inside.TuneRows.{numbers_of_rows}
 
 -- They are those of texts with the numbers of the rows in front of a place; where the disk is
 -- honest, of the tunes that stand there.
@@ -19,7 +19,8 @@ pub record GathersTo (Honest : Type 0) (layout : Layout) (s : Stand) (rows : Lis
     (place : ℕ) (run : List Entry) : Type 0 where
   pub texts : List (ℕ × List ℕ)
   pub gathers : GathersIncipits texts run
-  pub numbers : map (λ text. text.0) texts ++ numbers_in (drop place rows) ≡ numbers_in rows
+  pub numbers : map (λ text. text.0) texts ++ numbers_of_rows (drop place rows)
+      ≡ numbers_of_rows rows
   pub are_tunes : Honest → (ahead : List Part) (tunes : List Tune) → IsTunes layout tunes
       → HoldsTunes s ahead tunes rows
       → texts ++ numbered_texts (drop place tunes) ≡ numbered_texts tunes

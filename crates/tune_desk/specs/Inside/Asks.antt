@@ -5,7 +5,8 @@ use Rattle.std.specs.List.{AllByRecursion, Contains}
 use Rattle.tune_desk.specs.DeskDeeds.{DeskDeed, looked, compared, tested, ChangesNothing}
 use Rattle.tune_desk.specs.KeptNames.{folder_of, IsNamesake, IsKeptName, IsKeptEnding}
 use Rattle.tune_desk.specs.Refusals.{HasCause, HasFault}
-use Rattle.tune_desk.specs.Results.{Places, AreApart, SparesNames, SparesArchive, MayBeReplaced}
+use Rattle.tune_desk.specs.Results.{Places, AreFoundApart, SparesNames, SparesArchive}
+use Rattle.tune_desk.specs.Results.{MayBeReplaced}
 use Rattle.tune_desk.specs.Results.{archive_head}
 use Rattle.tune_desk.specs.declared.desk.Standing.TheVariants as standing
 use Rattle.tune_desk.specs.declared.kept_names.Kinship.{Kinship}
@@ -26,18 +27,18 @@ pub record Asks {D : Type 0} (Known : List (DeskDeed D) → Type 0) (was now : L
 -- whether two paths lead to one file or folder
 abbrev pub KnowsSame : {D : Type 0} → List ℕ → List ℕ → Bool → List (DeskDeed D) → Type 0
 KnowsSame path other true since = Contains since (compared path other (Ok true))
-KnowsSame path other false since = AreApart path other since
+KnowsSame path other false since = AreFoundApart path other since
 
 -- why that could not be found out
-abbrev pub IsUnasked : {D : Type 0} → ResultRefusal → List (DeskDeed D) → Type 0
-IsUnasked (Unasked fault) since = HasFault fault since
-IsUnasked OutOfMemory since = Unit {0}
-IsUnasked why since = ⊥
+abbrev pub IsCauseUnasked : {D : Type 0} → ResultRefusal → List (DeskDeed D) → Type 0
+IsCauseUnasked (Unasked fault) since = HasFault fault since
+IsCauseUnasked OutOfMemory since = Unit {0}
+IsCauseUnasked why since = ⊥
 
 abbrev pub TellsSame : {D : Type 0} → List ℕ → List ℕ → Result Bool ResultRefusal
     → List (DeskDeed D) → Type 0
 TellsSame path other result since =
-    MatchResult result (λ same. KnowsSame path other same since) (λ why. IsUnasked why since)
+    MatchResult result (λ same. KnowsSame path other same since) (λ why. IsCauseUnasked why since)
 
 -- what the ending of a name says
 abbrev pub FitsEnding : List ℕ → Kinship → Type 0
@@ -57,7 +58,7 @@ IsNamedLike path file Archive since = IsNamesake path file
     × Contains since (compared (folder_of path) (folder_of file) (Ok true))
 IsNamedLike path file Companion since = IsKeptName path file
     × Contains since (compared (folder_of path) (folder_of file) (Ok true))
-IsNamedLike path file why since = IsUnasked why since
+IsNamedLike path file why since = IsCauseUnasked why since
 
 abbrev pub TellsNames : {D : Type 0} → List ℕ → List ℕ → Result (Unit {0}) ResultRefusal
     → List (DeskDeed D) → Type 0
@@ -80,7 +81,7 @@ pub record IsReplaceable {D : Type 0} (places : Places) (target : List ℕ)
     (since : List (DeskDeed D))
     : Type 0 where
   pub leave : places.force ≡ true
-  pub other : AreApart target places.file since
+  pub other : AreFoundApart target places.file since
   pub no_archive : Contains since (tested target archive_head (Ok false))
 
 -- why it may not be
@@ -88,7 +89,7 @@ abbrev pub IsHeld : {D : Type 0} → Places → List ℕ → ResultRefusal → L
 IsHeld places target Archive since = Contains since (compared target places.file (Ok true))
 IsHeld places target OtherArchive since = Contains since (tested target archive_head (Ok true))
 IsHeld places target Standing since = places.force ≡ false
-IsHeld places target why since = IsUnasked why since
+IsHeld places target why since = IsCauseUnasked why since
 
 abbrev pub TellsHeld : {D : Type 0} → Places → List ℕ → Result (Unit {0}) ResultRefusal
     → List (DeskDeed D) → Type 0

@@ -2,7 +2,7 @@
 use Rattle.std.specs.Prelude.{ℕ, Bool, List, None, false, Ok, Result, MatchResult}
 use Rattle.std.specs.List.{Contains}
 use Rattle.tune_desk.specs.DeskDeeds.{DeskDeed, tested}
-use Rattle.tune_desk.specs.Results.{MayGrow, AreApart, archive_head, places_of}
+use Rattle.tune_desk.specs.Results.{MayGrow, AreFoundApart, archive_head, result_places}
 use Rattle.tune_desk.specs.declared.old_texts.OldTextsFault.{OldTextsFault}
 
 -- nothing
@@ -19,11 +19,11 @@ KnowsNoArchive old result since = MatchResult result
 abbrev pub KnowsOther : {D : Type 0} → List ℕ → List ℕ → Result (Unit {0}) OldTextsFault
     → List (DeskDeed D) → Type 0
 KnowsOther file old result since = MatchResult result
-    (λ _. AreApart old file since × Contains since (tested old archive_head (Ok false)))
+    (λ _. AreFoundApart old file since × Contains since (tested old archive_head (Ok false)))
     (λ _. Unit {0})
 
 -- it may grow
 abbrev pub FindsOld : {D : Type 0} → List ℕ → List ℕ → Result Bool OldTextsFault
     → List (DeskDeed D) → Type 0
 FindsOld file old result since = MatchResult result
-    (λ _. MayGrow (places_of file None false) old since) (λ _. Unit {0})
+    (λ _. MayGrow (result_places file None false) old since) (λ _. Unit {0})

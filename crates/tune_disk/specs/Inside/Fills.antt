@@ -1,7 +1,7 @@
 -- What it is to fill what was written.
 use Rattle.std.specs.Prelude.{◌≡◌, ℕ, ◌<◌, ◌≤◌, List, [], length, slice_index, get_or, take}
 use Rattle.tune_disk.specs.Disk.{Untouched}
-use Rattle.tune_disk.specs.Records.{state_of}
+use Rattle.tune_disk.specs.Records.{state_of_records}
 use Rattle.tune_disk.specs.declared.memory.Record.{Record}
 use Rattle.tune_disk.specs.declared.memory.Record.TheVariants.{Sync}
 
@@ -13,5 +13,5 @@ pub record Fills (byte : ℕ) (ranges : List (ℕ × ℕ)) (old new : List ℕ) 
 
 -- After so many records nothing was written since a sync, and those behind them are no syncs.
 pub record IsLastSync (synced : ℕ) (records : List Record) : Type 0 where
-  pub settled : (first : List ℕ) → (state_of first (take synced records)).now.written ≡ []
+  pub settled : (first : List ℕ) → (state_of_records first (take synced records)).now.written ≡ []
   pub later : (i : ℕ) → synced ≤ i → i < length records → get_or records i Sync ≡ Sync → ⊥

@@ -12,7 +12,7 @@ EachKeepsOffsets Kept old [] = Unit {0}
 EachKeepsOffsets Kept old (m ∷ ms) = KeepsOffsets Kept old m × EachKeepsOffsets Kept old ms
 
 -- Since old there were writes alone, and none to an offset that is kept.
-pub record Spares (Kept : ℕ → Type 0) (old new : DiskState) : Type 0 where
+pub record SparesOffsets (Kept : ℕ → Type 0) (old new : DiskState) : Type 0 where
   pub since : List Medium
   pub history : new.now ∷ new.past ≡ since ++ (old.now ∷ old.past)
   pub each : EachKeepsOffsets Kept old.now since

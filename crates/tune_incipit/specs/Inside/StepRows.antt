@@ -6,10 +6,10 @@ abbrev pub most_steps : ℕ
 most_steps = 11
 
 -- the steps, and zeros up to so many numbers
-abbrev pub padded : ℕ → List ℤ → List ℤ
-padded room steps = steps ++ replicate (room - length steps) (pos 0)
+abbrev pub padded_steps : ℕ → List ℤ → List ℤ
+padded_steps room steps = steps ++ replicate (room - length steps) (pos 0)
 
 -- a row has so many steps, and zeros after them
-pub record IsPadded (count : ℕ) (row : List ℤ) : Type 0 where
+pub record IsPaddedRow (count : ℕ) (row : List ℤ) : Type 0 where
   pub steps : length (take count row) ≡ count
-  pub zeros : row ≡ padded most_steps (take count row)
+  pub zeros : row ≡ padded_steps most_steps (take count row)

@@ -13,9 +13,9 @@ leaves_of width all (page ∷ pages) =
     leaf_in width (image_at all page) ∷ leaves_of width all pages
 
 -- the entries of leaves, one leaf after the other
-abbrev pub joined : List (List Entry) → List Entry
-joined [] = []
-joined (leaf ∷ leaves) = leaf ++ joined leaves
+abbrev pub joined_leaves : List (List Entry) → List Entry
+joined_leaves [] = []
+joined_leaves (leaf ∷ leaves) = leaf ++ joined_leaves leaves
 
 -- the first entry of each
 abbrev pub firsts : List (List Entry) → List Entry

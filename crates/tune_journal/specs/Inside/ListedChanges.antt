@@ -1,7 +1,7 @@
 -- The changes that a value holds, as a list, and how their images are held.
 use Rattle.std.specs.Prelude.{◌≡◌, ℕ, ◌+◌, ◌<◌, ◌≤◌, List, [], ◌∷◌, length, map, take, drop}
 use Rattle.std.specs.Prelude.{slice_index_or}
-use Rattle.tune_journal.specs.ChangeList.{padded}
+use Rattle.tune_journal.specs.ChangeList.{padded_image}
 use Rattle.tune_journal.specs.declared.changes.ChangedPage.{ChangedPage}
 use Rattle.tune_journal.specs.declared.changes.Kept.{Kept}
 use Rattle.tune_journal.specs.declared.changes.Kept.TheVariants.{Start, Whole}
@@ -14,14 +14,14 @@ abbrev pub wholes : List PageImage → List (List ℕ)
 wholes whole = map (λ image. image.bytes) whole
 
 abbrev pub image_in : List ℕ → List PageImage → Kept → List ℕ
-image_in starts whole (Start from size) = padded (take size (drop from starts))
+image_in starts whole (Start from size) = padded_image (take size (drop from starts))
 image_in starts whole (Whole place) = slice_index_or (wholes whole) place []
 
 abbrev pub change_in : List ℕ → List PageImage → ChangedPage → ℕ × List ℕ
 change_in starts whole c = (c.page, image_in starts whole c.kept)
 
-abbrev pub listed : List ℕ → List PageImage → List ChangedPage → List (ℕ × List ℕ)
-listed starts whole changed = map (change_in starts whole) changed
+abbrev pub listed_changes : List ℕ → List PageImage → List ChangedPage → List (ℕ × List ℕ)
+listed_changes starts whole changed = map (change_in starts whole) changed
 
 -- An image stands at its place: where it is whole, that has the number of its page.
 abbrev pub HasPlace : ℕ → List ℕ → ℕ → Kept → Type 0
@@ -48,7 +48,7 @@ start_count (c ∷ cs) = start_in c.kept + start_count cs
 pub record HoldsChanges (starts : List ℕ) (whole : List PageImage) (changed : List ChangedPage)
     (room : ℕ) : Type 0 where
   pub pages : List ℕ
-  pub order : IsChangeList (listed starts whole changed)
+  pub order : IsChangeList (listed_changes starts whole changed)
   pub marks : length pages ≡ length whole
   pub places : HavePlaces (length starts) pages changed
   pub count : length whole + start_count changed ≡ length changed

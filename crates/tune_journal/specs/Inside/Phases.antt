@@ -3,16 +3,16 @@ use Rattle.std.specs.Prelude.{◌≡◌, ◌⊎◌, ℕ, ◌+◌, ◌*◌, ◌<�
 use Rattle.std.specs.Prelude.{MatchResult, OnOk}
 use Rattle.byteorder.specs.Endian.{big_bytes}
 use Rattle.tune_disk.specs.Disk.{DiskState, GoesTo, settled, CountsFailure}
-use Rattle.tune_disk.specs.Inside.Spares.{Spares}
+use Rattle.tune_disk.specs.Inside.Spares.{SparesOffsets}
 use Rattle.tune_journal.specs.ChangeList.{change_at}
 use Rattle.tune_journal.specs.Image.{window, page_offset, entry_offset}
 use Rattle.tune_journal.specs.FileOffsets.{block_bytes, descriptor_offset, descriptor_bytes}
-use Rattle.tune_journal.specs.FileOffsets.{count_offset, entry_bytes}
+use Rattle.tune_journal.specs.FileOffsets.{count_offset, log_entry_bytes}
 
 -- writes that spare what is kept, and then a sync
 pub record Settles (Kept : ℕ → Type 0) (old new : DiskState) : Type 0 where
   pub mid : DiskState
-  pub spares : Spares Kept old mid
+  pub spares : SparesOffsets Kept old mid
   pub seen : new.seen ≡ mid.seen
   pub goes : GoesTo (settled mid.seen) mid new
 
@@ -20,7 +20,7 @@ pub record Settles (Kept : ℕ → Type 0) (old new : DiskState) : Type 0 where
 abbrev pub WritesAndSyncs : {T E : Type 0} → (ℕ → Type 0) → Result T E → DiskState → DiskState
     → Type 0
 WritesAndSyncs Kept result old new =
-    MatchResult result (λ _. Settles Kept old new) (λ _. Spares Kept old new)
+    MatchResult result (λ _. Settles Kept old new) (λ _. SparesOffsets Kept old new)
 
 -- an offset outside the log behind m pages, and outside its descriptor
 abbrev pub IsNoLog : ℕ → ℕ → Type 0
@@ -49,11 +49,11 @@ abbrev pub KeepsBoth : List (ℕ × List ℕ) → ℕ → Type 0
 KeepsBoth log i = IsInNoPage log i × IsOutside count_offset 4 i
 
 -- the first n of these entries stand there
-abbrev pub HoldsEntries : ℕ → List (ℕ × List ℕ) → ℕ → List ℕ → Type 0
-HoldsEntries at log n file = (k : ℕ) → k < n
-    → (window (at + entry_bytes * k) entry_bytes file
+abbrev pub HoldsLogEntries : ℕ → List (ℕ × List ℕ) → ℕ → List ℕ → Type 0
+HoldsLogEntries at log n file = (k : ℕ) → k < n
+    → (window (at + log_entry_bytes * k) log_entry_bytes file
     ≡ big_bytes 4 (change_at log k).0 ++ (change_at log k).1)
-    × (at + entry_bytes * (k + 1) ≤ length file)
+    × (at + log_entry_bytes * (k + 1) ≤ length file)
 
 -- an entry, as it stands in the log
 abbrev pub log_entry : ℕ → List ℕ → List ℕ

@@ -4,7 +4,7 @@ use Rattle.tune_disk.specs.Disk.{DiskState, settled}
 use Rattle.tune_journal.specs.Image.{IsHeaded, HasPageCount, HasLog, count_of, new_count_of}
 use Rattle.tune_journal.specs.Image.{gate_of, pages_of, log_of, entry_count_of}
 use Rattle.tune_journal.specs.FileOffsets.{gate_open}
-use Rattle.tune_journal.specs.Pages.{changed}
+use Rattle.tune_journal.specs.Pages.{changed_pages}
 
 -- n pages at their offsets behind a closed gate, all of it on the disk
 pub record IsAtRest (n : ℕ) (s : DiskState) : Type 0 where
@@ -32,4 +32,4 @@ pub record IsOpened (m : ℕ) (s : DiskState) : Type 0 where
 pub record IsApplied (m : ℕ) (s : DiskState) : Type 0 where
   pub opened : IsOpened m s
   pub count : count_of s.seen ≡ m
-  pub pages : pages_of m s.seen ≡ changed (pages_of m s.seen) (log_of s.seen)
+  pub pages : pages_of m s.seen ≡ changed_pages (pages_of m s.seen) (log_of s.seen)

@@ -7,7 +7,7 @@ use Rattle.tune_journal.specs.Image.{pages_of, log_of}
 use Rattle.tune_journal.specs.Inside.ReadAhead.{AheadPages, IsAhead}
 use Rattle.tune_journal.specs.Inside.Rest.{IsAtRest, IsLogged, IsOpened, IsApplied}
 use Rattle.tune_journal.specs.FileOffsets.{most_pages}
-use Rattle.tune_journal.specs.Pages.{changed}
+use Rattle.tune_journal.specs.Pages.{changed_pages}
 
 -- codes of lists of pages, and of changes
 abbrev pages_code : Coded (List (List ℕ))
@@ -48,14 +48,14 @@ module _ {D : Type 0} where
       disk = disk;
       pages = pages_of n (state disk).seen;
       changes = log_of (state disk).seen;
-      next = changed (pages_of m (state disk).seen) (log_of (state disk).seen);
+      next = changed_pages (pages_of m (state disk).seen) (log_of (state disk).seen);
     }
 
     -- what the log makes of the first m pages
     abbrev pub decided : D → ℕ → Decided D
     decided disk m = record {
       disk = disk;
-      pages = changed (pages_of m (state disk).seen) (log_of (state disk).seen);
+      pages = changed_pages (pages_of m (state disk).seen) (log_of (state disk).seen);
       changes = log_of (state disk).seen;
     }
 

@@ -11,7 +11,7 @@ use Rattle.tune_store.specs.declared.tune_store.TuneStore as store
 use Rattle.tune_scripts.specs.declared.script_lines.BookUse.{BookUse}
 use Rattle.tune_scripts.specs.declared.script_runs.RunEnd.{RunEnd}
 use Rattle.tune_scripts.specs.declared.script_runs.RunEnd.TheVariants.{WriterFault, DeviceFault}
-use Rattle.tune_scripts.specs.Carried.{Carried, IsCarried, CarriesOut, run_of}
+use Rattle.tune_scripts.specs.Carried.{Carried, IsCarried, CarriesAllOut, run_of}
 use Rattle.tune_scripts.specs.Prefixes.{AreAcknowledged}
 use Rattle.tune_scripts.specs.Replies.{answer_bytes}
 use Rattle.tune_scripts.specs.Scripts.{reading_of, reading_of_book, Script}
@@ -66,7 +66,7 @@ GoesBy (Some end) run = EndsAfter end run
 pub record TurnsOver {S : Type 0} (kept : store.Ghosts S) (output : OutputBytes) (old new : S)
     (result : Option RunEnd) (Tells : RunWork → Type 0) : Type 0 where
   pub carried : List (Carried S)
-  pub carries_out : CarriesOut kept old carried new
+  pub carries_out : CarriesAllOut kept old carried new
   pub goes : GoesBy result (run_of carried)
   pub tells : Tells (work_by output.was output.now (run_of carried))
 

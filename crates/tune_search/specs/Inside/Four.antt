@@ -40,8 +40,8 @@ entry_count entries = length entries.titles + length entries.rhythms + length en
     + length entries.incipits
 
 -- the entries with these runs put in, or taken out
-abbrev pub put_in : SearchRuns → SearchRuns → SearchRuns
-put_in runs entries = record {
+abbrev pub runs_put_in : SearchRuns → SearchRuns → SearchRuns
+runs_put_in runs entries = record {
   notes = entries.notes;
   titles = inserted_all runs.titles entries.titles;
   rhythms = inserted_all runs.rhythms entries.rhythms;

@@ -11,7 +11,7 @@ HasKeys (first ∷ []) count key = (count ≡ 1) × (key ≡ first)
 HasKeys (first ∷ (second ∷ later)) count key = count ≡ 2
 
 -- for each of the numbers how many keys it has, and the first
-pub record AreHeld (numbers : List ℕ) (es : List Entry) (counts keys : List ℕ) : Type 0 where
+pub record AreKeysHeld (numbers : List ℕ) (es : List Entry) (counts keys : List ℕ) : Type 0 where
   pub counted : length counts ≡ length numbers
   pub keyed : length keys ≡ length numbers
   pub each : (k : ℕ) → k < length numbers

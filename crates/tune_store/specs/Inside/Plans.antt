@@ -17,8 +17,8 @@ IsOwnOrMemory command refusal = IsRefusalOfOwn command refusal ⊎ (refusal ≡ 
 -- A change, if there is one, changes something on tunes of these labels: tunes that come are not
 -- none, and a tune in the place of another has a later revision. Each other change that can be made
 -- does by itself.
-abbrev pub Alters : Option Change → List Label → Type 0
-Alters (Some (Add first texts)) labels = 0 < vec_len texts
-Alters (Some (Put place tune)) labels =
+abbrev pub AltersLabels : Option Change → List Label → Type 0
+AltersLabels (Some (Add first texts)) labels = 0 < vec_len texts
+AltersLabels (Some (Put place tune)) labels =
     (d : Label) → (slice_index_or labels place d).revision < tune.revision
-Alters change labels = ⊤
+AltersLabels change labels = ⊤

@@ -2,8 +2,9 @@
 use Rattle.std.specs.Prelude.{ℕ, ◌+◌, ◌-◌, ◌^◌, List, [], ◌∷◌, length, drop, codes, nat_lt}
 use Rattle.std.specs.Prelude.{Option, None, Some, ◌==◌, ◌&&◌, if◌then◌else◌}
 use Rattle.abc_fields.specs.Bytes.{space, line_feed}
-use Rattle.tune_undo.specs.Inside.ItemReading.{◌>>=◌, after, field_at, number_at, kind_of}
-use Rattle.tune_undo.specs.Inside.ItemReading.{length_of, number_of, after_of, mark_of}
+use Rattle.tune_undo.specs.Inside.ItemReading.{◌>>=◌, bytes_after, field_at, number_read_at}
+use Rattle.tune_undo.specs.Inside.ItemReading.{kind_read}
+use Rattle.tune_undo.specs.Inside.ItemReading.{length_of, number_read, after_of_word, mark_of}
 use Rattle.tune_undo.specs.OldItems.{is_old_kind, after_old}
 use Rattle.tune_undo.specs.declared.part_lines.TuneLine.{TuneLine}
 use Rattle.tune_undo.specs.declared.part_lines.FirstLine.{FirstLine}
@@ -15,69 +16,69 @@ use Rattle.tune_undo.specs.declared.old_entries.After.{After}
 -- the line of a tune, and what follows it
 abbrev pub tune_line_at : List ℕ → Option (TuneLine × List ℕ)
 tune_line_at bytes = do
-  front ← after (codes "% tune ") bytes
-  number ← number_at space front
-  was_word ← after (codes "was ") number.1
+  front ← bytes_after (codes "% tune ") bytes
+  number ← number_read_at space front
+  was_word ← bytes_after (codes "was ") number.1
   was_field ← field_at space was_word
   was ← length_of was_field.0
-  is_word ← after (codes "is ") was_field.1
+  is_word ← bytes_after (codes "is ") was_field.1
   is_field ← field_at line_feed is_word
-  is ← after_of is_field.0
+  is ← after_of_word is_field.0
   Some (record { number = number.0; was = was; is = is }, is_field.1)
 
 -- the `X:` line of a tune: its number, and what follows it
 abbrev pub number_line_at : List ℕ → Option (ℕ × List ℕ)
 number_line_at bytes = do
-  front ← after (codes "X:") bytes
-  number_at line_feed front
+  front ← bytes_after (codes "X:") bytes
+  number_read_at line_feed front
 
 -- the line of a set list with this word: its name, its numbers as they are written, what follows
 abbrev pub set_line_at : List ℕ → List ℕ → Option (List ℕ × List ℕ × List ℕ)
 set_line_at word bytes = do
-  front ← after (codes "% set ") bytes
+  front ← bytes_after (codes "% set ") bytes
   name ← field_at space front
-  rest ← after word name.1
+  rest ← bytes_after word name.1
   numbers ← field_at line_feed rest
   Some (name.0, numbers.0, numbers.1)
 
 -- the first line of an entry, and what follows it
 abbrev pub first_line_at : List ℕ → Option (FirstLine × List ℕ)
 first_line_at bytes = do
-  front ← after (codes "% tunes-book ") bytes
+  front ← bytes_after (codes "% tunes-book ") bytes
   word ← field_at space front
-  kind ← kind_of word.0
-  parts ← number_at space word.1
-  len ← number_at line_feed parts.1
+  kind ← kind_read word.0
+  parts ← number_read_at space word.1
+  len ← number_read_at line_feed parts.1
   Some (record { kind = kind; parts = parts.0; len = len.0 }, len.1)
 
 -- the line of a mark, and what follows it
 abbrev pub mark_line_at : List ℕ → Option (Mark × List ℕ)
 mark_line_at bytes = do
-  front ← after (codes "% tunes-book ") bytes
+  front ← bytes_after (codes "% tunes-book ") bytes
   word ← field_at line_feed front
   mark ← mark_of word.0
   Some (mark, word.1)
 
 -- NUMBERS OF A SET LIST
 -- the bytes before the first space
-abbrev pub word_of : List ℕ → List ℕ
-word_of [] = []
-word_of (byte ∷ bytes) = if byte == space then [] else byte ∷ word_of bytes
+abbrev pub word_before_space : List ℕ → List ℕ
+word_before_space [] = []
+word_before_space (byte ∷ bytes) = if byte == space then [] else byte ∷ word_before_space bytes
 
 -- a number behind a space, and what follows it
 abbrev pub next_number : List ℕ → Option (ℕ × List ℕ)
 next_number bytes = do
-  front ← after (codes " ") bytes
-  number ← number_of (word_of front)
-  Some (number, drop (length (word_of front)) front)
+  front ← bytes_after (codes " ") bytes
+  number ← number_read (word_before_space front)
+  Some (number, drop (length (word_before_space front)) front)
 
 -- ENTRIES OF BEFORE
 -- a length before a sum and a length
 abbrev pub first_of_three : List ℕ → Option ℕ
 first_of_three word = do
-  len ← number_at space word
-  sum ← number_at space len.1
-  size ← number_of sum.1
+  len ← number_read_at space word
+  sum ← number_read_at space len.1
+  size ← number_read sum.1
   Some len.0
 
 abbrev pub or_first : Option ℕ → Option ℕ → Option ℕ
@@ -86,16 +87,16 @@ or_first None other = other
 
 -- a length, alone or before a sum and a length
 abbrev pub old_len_of : List ℕ → Option ℕ
-old_len_of word = or_first (number_of word) (first_of_three word)
+old_len_of word = or_first (number_read word) (first_of_three word)
 
 -- the first line of an entry of before, and what follows it
 abbrev pub old_line_at : List ℕ → Option (OldLine × List ℕ)
 old_line_at bytes = do
-  front ← after (codes "% tunes-book ") bytes
+  front ← bytes_after (codes "% tunes-book ") bytes
   word ← field_at space front
-  kind ← kind_of word.0
-  number ← number_at space word.1
-  revision ← number_at space number.1
+  kind ← kind_read word.0
+  number ← number_read_at space word.1
+  revision ← number_read_at space number.1
   lens ← field_at line_feed revision.1
   len ← old_len_of lens.0
   Some (record { kind = kind; number = number.0; revision = revision.0; len = len }, lens.1)

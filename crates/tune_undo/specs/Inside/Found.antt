@@ -1,7 +1,7 @@
 -- What the walk over a book of old texts finds, and what it leaves.
 use Rattle.std.specs.Prelude.{◌≡◌, ℕ, List, [], ◌∷◌, ◌++◌, Bool, true, false, Option, None, Some}
 use Rattle.tune_undo.specs.OldEntries.{EntryValue, entry_value, StepValue}
-use Rattle.tune_undo.specs.OldItems.{Item, Entered, Marked, ItemPlace, Top, Start, next, IsLog}
+use Rattle.tune_undo.specs.OldItems.{Item, Entered, Marked, ItemPlace, Top, Start, next, IsItemLog}
 use Rattle.tune_undo.specs.OldItems.{after_item, OldEntry, IsOld, entry_of_old, old_bytes}
 use Rattle.tune_undo.specs.declared.old_items.Found.{Found}
 use Rattle.tune_undo.specs.declared.old_items.Found.TheVariants as found
@@ -18,7 +18,7 @@ place_of false = Start
 -- the items of a book that begin behind its first byte, which is at the top of a line
 abbrev pub IsLaterLog : List ℕ → List Item → Type 0
 IsLaterLog [] items = items ≡ []
-IsLaterLog (byte ∷ bytes) items = IsLog (next Start byte) bytes items
+IsLaterLog (byte ∷ bytes) items = IsItemLog (next Start byte) bytes items
 
 -- the steps after what was found, if something was
 abbrev pub after_found : List StepValue → Option Item → List StepValue

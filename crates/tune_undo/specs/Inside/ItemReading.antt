@@ -20,13 +20,13 @@ None >>= f = None
 (Some x) >>= f = f x
 
 -- what a function returned, seen by a view, is what reading gives
-abbrev pub Gives : {X Y : Type 0} → (X → Y) → Option X → Option Y → Type 0
-Gives view None read = read ≡ None
-Gives view (Some x) read = read ≡ Some (view x)
+abbrev pub IsReadAs : {X Y : Type 0} → (X → Y) → Option X → Option Y → Type 0
+IsReadAs view None read = read ≡ None
+IsReadAs view (Some x) read = read ≡ Some (view x)
 
 -- what follows these bytes, where others begin with them
-abbrev pub after : List ℕ → List ℕ → Option (List ℕ)
-after front bytes =
+abbrev pub bytes_after : List ℕ → List ℕ → Option (List ℕ)
+bytes_after front bytes =
     if starts_with nat_eq bytes front then Some (drop (length front) bytes) else None
 
 -- a byte more before the end
@@ -41,33 +41,34 @@ field_at end (byte ∷ bytes) =
     if byte == end then Some ([], bytes) else onto byte (field_at end bytes)
 
 -- the number of 32 bits that these digits are, in decimal without leading zeros
-abbrev pub number_of : List ℕ → Option ℕ
-number_of word = let n = digits_value 10 word in
+abbrev pub number_read : List ℕ → Option ℕ
+number_read word = let n = digits_value 10 word in
     if nat_lt n (2 ^ 32) && bytes_eq (decimal n) word then Some n else None
 
 -- the number before the first of these bytes, and what follows it
-abbrev pub number_at : ℕ → List ℕ → Option (ℕ × List ℕ)
-number_at end bytes = do
+abbrev pub number_read_at : ℕ → List ℕ → Option (ℕ × List ℕ)
+number_read_at end bytes = do
   field ← field_at end bytes
-  number ← number_of field.0
+  number ← number_read field.0
   Some (number, field.1)
 
 -- how long a text is, or that there is none
 abbrev pub length_of : List ℕ → Option (Option ℕ)
 length_of word =
     if bytes_eq word (codes "none") then Some None
-    else (number_of word >>= λ len. Some (Some len))
+    else (number_read word >>= λ len. Some (Some len))
 
 -- what a tune is after a change
-abbrev pub after_of : List ℕ → Option After
-after_of word =
+abbrev pub after_of_word : List ℕ → Option After
+after_of_word word =
     if length word == 64 then (sum_of word >>= λ sum. Some (Text sum))
     else if bytes_eq word (codes "none") then Some Nothing
-    else (after (codes "revision ") word >>= λ rest. number_of rest >>= λ n. Some (Revision n))
+    else (bytes_after (codes "revision ") word >>= λ rest. number_read rest >>= λ n. Some
+    (Revision n))
 
 -- the kind of an entry
-abbrev pub kind_of : List ℕ → Option EntryKind
-kind_of word =
+abbrev pub kind_read : List ℕ → Option EntryKind
+kind_read word =
     if bytes_eq word (codes "delete") then Some kind.Delete
     else if bytes_eq word (codes "replace") then Some kind.Replace
     else if bytes_eq word (codes "put") then Some kind.Put
@@ -86,4 +87,5 @@ mark_of word =
     if bytes_eq word (codes "not done") then Some NotDone
     else if bytes_eq word (codes "undone") then Some Undone
     else if bytes_eq word (codes "undoing") then Some (Undoing 0)
-    else (after (codes "undoing ") word >>= λ rest. number_of rest >>= λ n. Some (Undoing n))
+    else (bytes_after (codes "undoing ") word >>= λ rest. number_read rest >>= λ n. Some
+    (Undoing n))

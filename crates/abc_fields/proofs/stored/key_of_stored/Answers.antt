@@ -3,7 +3,7 @@ use Rattle.abc_fields.specs.Lines.{lines_of, spans_of}
 use Rattle.abc_fields.specs.Tunes.{has_key}
 use Rattle.abc_fields.specs.Inside.LinesLeft.{contents_of}
 use Rattle.abc_fields.specs.Inside.HeaderEnds.{key_place, has_end}
-use Rattle.abc_fields.specs.Inside.ToldLines.{IsTold, AreTold, IsNear}
+use Rattle.abc_fields.specs.Inside.ToldLines.{IsTold, AreTold, IsShortSpan}
 use Rattle.std.specs.List.{AllByRecursion}
 use Rattle.abc_fields.proofs.ToldLemmas.{lines_near}
 use Rattle.abc_fields.proofs.LineOffsets.{spans_have_lines}
@@ -19,7 +19,7 @@ returns-then-holds_return c = elim c.then-holds_return.branch [
 ]
 
 pub find_told-requires : goal.find_told-requires
-find_told-requires c = subst (AllByRecursion IsNear) (sym c.without_return-lines.ensures) (lines_near c.args.text.now c.requires.short)
+find_told-requires c = subst (AllByRecursion IsShortSpan) (sym c.without_return-lines.ensures) (lines_near c.args.text.now c.requires.short)
 
 pub returns-in_default : goal.returns-in_default
 returns-in_default c =

@@ -3,7 +3,7 @@ use Rattle.std.specs.List.{AllByRecursion}
 use Rattle.abc_fields.specs.Tunes.{has_key}
 use Rattle.abc_fields.specs.Inside.LinesLeft.{contents_of}
 use Rattle.abc_fields.specs.Inside.HeaderEnds.{key_place, has_end}
-use Rattle.abc_fields.specs.Inside.ToldLines.{IsNear}
+use Rattle.abc_fields.specs.Inside.ToldLines.{IsShortSpan}
 use Rattle.abc_fields.proofs.ToldLemmas.{IsToldSoFar}
 use Rattle.abc_fields.proofs.told_lines.find_told.Given as goal
 
@@ -13,7 +13,7 @@ invariant-loop-line l = record {
   place : key_place l.in_part l.lines ≡ key_place false l.fn.lines;
   key : has_key (contents_of l.lines) ≡ has_key (contents_of l.fn.lines);
   ends : has_end (contents_of l.lines) ≡ has_end (contents_of l.fn.lines);
-  near : AllByRecursion IsNear l.lines;
+  near : AllByRecursion IsShortSpan l.lines;
   told : IsToldSoFar l.fn.lines l.lines l.places l.count;
 }
 

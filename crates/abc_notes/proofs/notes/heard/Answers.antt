@@ -4,7 +4,7 @@ use Rattle.abc_notes.specs.Events.{Event, note, change}
 use Rattle.abc_notes.specs.declared.bar.Bar.{Bar}
 use Rattle.abc_notes.specs.Inside.BarTables.{IsBarAfter}
 use Rattle.abc_notes.specs.Inside.EventView.{event_of, written_note}
-use Rattle.abc_notes.specs.Inside.KeptBar.{notes_left, past_of, asked_of, IsKeptBar}
+use Rattle.abc_notes.specs.Inside.KeptBar.{notes_left, past_of, asked_notes, IsKeptBar}
 use Rattle.abc_notes.specs.Pitches.{sounded, accidental_of_note}
 use Rattle.abc_notes.specs.declared.events.Event.{Event as CodeEvent}
 use Rattle.abc_notes.proofs.KeptLemmas.{kept_on, notes_note, notes_change, is_asked, not_asked}
@@ -55,7 +55,7 @@ returns-then-all-clause-notes c =
     is_asked (sounded written accidental) (notes_left c.args.bar.now c.args.bar_events.now (event_of c.args.event ∷ c.args.events.now)) left c.args.all wanted
     (notes_note c.args.bar.now c.take_note.new.self c.args.bar_events.now (event_of c.args.event ∷ c.args.events.now) c.args.events.now written
     c.requires (ap (λ e. event_of e ∷ c.args.events.now) c.in-Note.is) after (c.take_note.ensures.start ∙ ap (λ (b : Bar). b.start) asked.ensures.same))
-    ∙ ap (λ n. n ∷ asked_of c.args.all left) (ap (sounded written) (sym asked.ensures.value) ∙ sym c.token.ensures)
+    ∙ ap (λ n. n ∷ asked_notes c.args.all left) (ap (sounded written) (sym asked.ensures.value) ∙ sym c.token.ensures)
 
 pub returns-else-note-clause-kept : goal.returns-else-note-clause-kept
 returns-else-note-clause-kept c =
@@ -79,7 +79,7 @@ returns-in-Bar-clause-kept c = c.end_bar.ensures.kept
 
 pub returns-in-Bar-clause-notes : goal.returns-in-Bar-clause-notes
 returns-in-Bar-clause-notes c =
-    ap (asked_of c.args.all)
+    ap (asked_notes c.args.all)
     (ap (λ e. notes_left c.args.bar.now c.args.bar_events.now (event_of e ∷ c.args.events.now)) c.in-Bar.is ∙ c.end_bar.ensures.notes)
 
 pub returns-in-Change-clause-kept : goal.returns-in-Change-clause-kept
@@ -91,7 +91,7 @@ returns-in-Change-clause-kept c =
 
 pub returns-in-Change-clause-notes : goal.returns-in-Change-clause-notes
 returns-in-Change-clause-notes c =
-    ap (asked_of c.args.all)
+    ap (asked_notes c.args.all)
     (notes_change c.args.bar.now c.take_change.new.self c.args.bar_events.now (event_of c.args.event ∷ c.args.events.now) c.args.events.now
     c.of_text.result
     c.requires (ap (λ e. event_of e ∷ c.args.events.now) c.in-Change.is ∙ ap (λ s. change s ∷ c.args.events.now) (sym c.of_text.ensures))

@@ -2,7 +2,7 @@ use Rattle.std.proofs.Common.{◌≡◌, arith, ap, sym, ◌∙◌, subst, lengt
 use Rattle.std.proofs.lemmas.Result.{IfOk-weaker}
 use Rattle.chosen_books.specs.BookTunes.{book_tunes}
 use Rattle.chosen_books.specs.ChosenTunes.{GoIn, bad_tunes, chosen_tunes, good_tunes, new_tunes, texts_of}
-use Rattle.chosen_books.specs.Inside.WrittenParts.{AllFit}
+use Rattle.chosen_books.specs.Inside.WrittenParts.{TextsFit}
 use Rattle.chosen_books.proofs.ChoiceLemmas.{all_found, all_tunes, chosen_fit}
 use Rattle.chosen_books.proofs.choices.chosen_books.Goals as goal
 
@@ -33,7 +33,8 @@ returns-clause-parts c =
     let good = c.in_ok-found.ensures.good ∙ ap (λ b. good_tunes longest (book_tunes how.carry b)) c.as_slice-2.ensures in
     let same : c.in_ok-tunes.tunes.items ≡ chosen_tunes how longest sums book =
     c.in_ok-tunes.ensures.kept ∙ ap (λ ts. cond how.only_new (new_tunes sums ts) ts) good in
-    let fit : AllFit longest (texts_of c.in_ok-tunes.tunes.items) = subst (λ ts. AllFit longest (texts_of ts)) (sym same) (chosen_fit how longest sums book) in
+    let fit : TextsFit longest (texts_of c.in_ok-tunes.tunes.items) = subst (λ ts. TextsFit longest (texts_of ts)) (sym same)
+    (chosen_fit how longest sums book) in
     subst (λ ts. GoIn longest c.in_ok-written_parts.field-0.items (texts_of ts)) same (c.in_ok-written_parts.ensures longest fit)
 
 pub returns-clause-none_lost : goal.returns-clause-none_lost

@@ -6,9 +6,9 @@ use Rattle.abc_fields.specs.FileHeaders.{file_header, with_header}
 use Rattle.abc_fields.specs.Inside.LinesLeft.{contents_of}
 use Rattle.abc_fields.proofs.BookLemmas.{lines_plain}
 use Rattle.told_books.specs.Fates.{book_lines, fates_of}
-use Rattle.told_books.specs.ToldTunes.{tunes_from}
+use Rattle.told_books.specs.ToldTunes.{told_tunes_from}
 use Rattle.chosen_books.specs.Inside.Fronts.{AllPlain, IsFront, IsJudged}
-use Rattle.told_books.specs.ToldTunes.{fault_of}
+use Rattle.told_books.specs.ToldTunes.{fault_of_tune}
 use Rattle.told_books.specs.declared.fates.Fate.TheVariants.{Kept}
 use Rattle.chosen_books.proofs.FoundLaw.{bad_end, between_engraves, found_between, found_first, found_other, found_start, good_end}
 use Rattle.chosen_books.proofs.FoundLaw.{memory_left, next_of, told_of, tunes_end}
@@ -56,7 +56,7 @@ loop-fate-preserved c =
     let left = contents_of c.loop-fate.lines in
     let rest = contents_of c.next.new.self in
     let line = c.in-Some.line.text.now in
-    let rows = tunes_from longest (file_header (book_lines book)) 1 (book_lines book) in
+    let rows = told_tunes_from longest (file_header (book_lines book)) 1 (book_lines book) in
     let items = c.deref-fate-items.result.now in
     let fate = get_or items i (Kept 0) in
     let was = c.loop-fate.invariant.found in
@@ -77,7 +77,7 @@ loop-fate-preserved c =
             let judged : IsJudged longest lines w.judge-answer.result =
             subst (λ ls. IsJudged longest (with_header (header ++ was.at.between) (tune_run ls)) w.judge-answer.result) same
             (w.judge-answer.ensures.answer header was.at.between was.carries (subst AllPlain (sym same) plain.1)
-            (tune.fault ∙ ap (λ ls. fault_of longest (with_header header (tune_run ls))) (sym same))) in
+            (tune.fault ∙ ap (λ ls. fault_of_tune longest (with_header header (tune_run ls))) (sym same))) in
             let bytes = memory_left w.judge-answer.result _ w.judge-answer.ensures.front w.in_ok-take.ensures.memory in
             rw (w.front-is, w.found-is, w.tunes-is, w.carried-is)
             (found_start carry longest book i left c.loop-fate.front w.judge-answer.new.self c.loop-fate.found w.take.new.self c.loop-fate.tunes

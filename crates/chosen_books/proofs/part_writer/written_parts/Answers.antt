@@ -2,7 +2,7 @@ use Rattle.std.proofs.Common.{◌≡◌, ◌++◌, [], ap, sym, ◌∙◌, subst
 use Rattle.std.specs.Vec.Iter.{into_iter_items}
 use Rattle.std.specs.Prelude.{vec_len}
 use Rattle.chosen_books.specs.ChosenTunes.{GoIn, texts_of}
-use Rattle.chosen_books.specs.Inside.WrittenParts.{AllFit, IsClosed}
+use Rattle.chosen_books.specs.Inside.WrittenParts.{TextsFit, IsClosed}
 use Rattle.chosen_books.proofs.PartLemmas.{closed_more, closed_end, closed_last, no_texts, part_fits, fit_back, empty_texts, full_texts}
 use Rattle.chosen_books.proofs.part_writer.written_parts.Goals as goal
 use Rattle.chosen_books.proofs.part_writer.written_parts.Goals.{then-not-is_empty+in_ok-book+in_ok-push, else-not-is_empty}
@@ -29,7 +29,7 @@ returns c = λ longest fit.
     let was = c.loop-tune.invariant.closed longest fit in
     let last : IsClosed longest all c.loop-tune.parts.items texts =
     subst (IsClosed longest all c.loop-tune.parts.items) (ap (λ ts. texts ++ ts) none ∙ append-nil texts) was in
-    let fits : AllFit longest texts = fit_back longest last.done texts (subst (AllFit longest) (sym last.whole) fit) in
+    let fits : TextsFit longest texts = fit_back longest last.done texts (subst (TextsFit longest) (sym last.whole) fit) in
     elim c.if-not-is_empty.branch [
       | then-not-is_empty+in_ok-book+in_ok-push w ↦ subst (λ ps. GoIn longest ps all) (sym (ap (λ v. v.items) w.parts-is ∙ w.in_ok-push.ensures.items))
           (closed_last longest all c.loop-tune.parts.items texts w.in_ok-book.field-0 last

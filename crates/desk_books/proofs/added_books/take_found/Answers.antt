@@ -1,7 +1,7 @@
 use Rattle.std.proofs.Common.{inl, inr, refl, None, false, Ok, string_bytes}
 use Rattle.tune_disk.specs.declared.file.Access.TheVariants.{Change}
 use Rattle.tune_desk.specs.DeskDeeds.{opened, closed}
-use Rattle.tune_desk.specs.Results.{places_of}
+use Rattle.tune_desk.specs.Results.{result_places}
 use Rattle.desk_scenes.proofs.FileLemmas.{spares_since, visits_read}
 use Rattle.desk_books.proofs.AddLemmas.{around_spares}
 use Rattle.desk_books.proofs.added_books.take_found.Goals as goal
@@ -16,7 +16,7 @@ returns-in-Ok-clause-files g c =
 
 pub returns-in-Err-clause-files : goal.returns-in-Err-clause-files
 returns-in-Err-clause-files g c =
-    let places = places_of (string_bytes c.args.request.now.file.now) None false in
+    let places = result_places (string_bytes c.args.request.now.file.now) None false in
     let did = c.in-Err.ensures in
     spares_since g.D.Disk places (g.K.Desk.deeds c.args.desk.now) (g.K.Desk.deeds c.open_once.new.desk) did.0 did.1
     (visits_read g.D.Disk places Change did.0 did.2)

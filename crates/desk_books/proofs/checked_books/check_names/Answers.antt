@@ -1,5 +1,5 @@
 use Rattle.std.proofs.Common.{string_bytes, subst, sym, take, ◌+◌}
-use Rattle.desk_books.specs.CheckedBooks.{TellsName}
+use Rattle.desk_books.specs.CheckedBooks.{TellsBookName}
 use Rattle.desk_books.specs.Stages.{EachInTurn, stage_of}
 use Rattle.desk_books.proofs.TurnLemmas.{next_in_turn}
 use Rattle.desk_scenes.proofs.QuietLemmas.{quiet_both}
@@ -13,11 +13,11 @@ loop-name-preserved g c =
     let now = g.K.Desk.deeds c.check_name-status.new.desk in
     let start = stage_of g.C.Console c.args.console.now was in
     let end = stage_of g.C.Console c.check_name-status.new.console now in
-    let told = next_in_turn (λ name. TellsName folder (string_bytes name)) c.args.names.now c.loop-name.name-index c.name-item.result start
+    let told = next_in_turn (λ name. TellsBookName folder (string_bytes name)) c.args.names.now c.loop-name.name-index c.name-item.result start
     (stage_of g.C.Console c.loop-name.console mid) end c.loop-name.worst c.check_name-status.result c.loop-name-test.true c.name-item.is
     c.loop-name.invariant.told c.check_name-status.ensures.told in
     record {
       quiet = quiet_both was mid now c.loop-name.invariant.quiet c.check_name-status.ensures.quiet;
-      told = subst (λ worst. EachInTurn (λ name. TellsName folder (string_bytes name)) (take (c.loop-name.name-index + 1) c.args.names.now) start end worst)
+      told = subst (λ worst. EachInTurn (λ name. TellsBookName folder (string_bytes name)) (take (c.loop-name.name-index + 1) c.args.names.now) start end worst)
           (sym c.max-worst.ensures) told;
     }

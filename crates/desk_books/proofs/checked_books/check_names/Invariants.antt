@@ -1,5 +1,5 @@
 use Rattle.std.proofs.Common.{string_bytes, take}
-use Rattle.desk_books.specs.CheckedBooks.{TellsName}
+use Rattle.desk_books.specs.CheckedBooks.{TellsBookName}
 use Rattle.desk_books.specs.Stages.{EachInTurn, stage_of}
 use Rattle.desk_scenes.specs.Scenes.{IsQuiet}
 use Rattle.desk_books.proofs.checked_books.check_names.Given as goal
@@ -8,6 +8,6 @@ use Rattle.desk_books.proofs.checked_books.check_names.Given as goal
 abbrev pub invariant-loop-name : goal.invariant-loop-name
 invariant-loop-name g l = record {
   quiet : IsQuiet (g.K.Desk.deeds l.fn.desk) (g.K.Desk.deeds l.desk);
-  told : EachInTurn (λ name. TellsName (string_bytes l.folder) (string_bytes name)) (take l.name-index l.names)
+  told : EachInTurn (λ name. TellsBookName (string_bytes l.folder) (string_bytes name)) (take l.name-index l.names)
       (stage_of g.C.Console l.fn.console (g.K.Desk.deeds l.fn.desk)) (stage_of g.C.Console l.console (g.K.Desk.deeds l.desk)) l.worst;
 }

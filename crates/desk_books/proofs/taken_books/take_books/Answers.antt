@@ -1,5 +1,5 @@
 use Rattle.std.proofs.Common.{None, false, string_bytes, subst, sym, take, ◌+◌}
-use Rattle.tune_desk.specs.Results.{places_of}
+use Rattle.tune_desk.specs.Results.{result_places}
 use Rattle.tune_desk.proofs.SpareLemmas.{spares_both}
 use Rattle.desk_books.specs.AddedBooks.{TakesPath, reached_at}
 use Rattle.desk_books.specs.Givens.{given_by}
@@ -17,7 +17,7 @@ loop-path-preserved g c =
     start mid end c.loop-path.worst c.take_path-status.result c.loop-path-test.true c.path-item.is c.loop-path.invariant.takes
     c.take_path-status.ensures.takes in
     record {
-      files = spares_both (places_of (string_bytes c.args.request.now.file.now) None false) (g.K.Desk.deeds c.args.desk.now)
+      files = spares_both (result_places (string_bytes c.args.request.now.file.now) None false) (g.K.Desk.deeds c.args.desk.now)
           (g.K.Desk.deeds c.loop-path.desk) (g.K.Desk.deeds c.take_path-status.new.desk) c.loop-path.invariant.files c.take_path-status.ensures.files;
       takes = subst (λ worst. EachInTurn (λ path. TakesPath g.S.TuneStore given (string_bytes path)) (take (c.loop-path.path-index + 1) c.args.paths.now)
           start end worst) (sym c.max-worst.ensures) taken;

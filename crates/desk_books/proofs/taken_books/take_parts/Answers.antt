@@ -1,6 +1,6 @@
 use Rattle.std.proofs.Common.{None, false, string_bytes}
 use Rattle.std.specs.Vec.Iter.{into_iter_items}
-use Rattle.tune_desk.specs.Results.{places_of}
+use Rattle.tune_desk.specs.Results.{result_places}
 use Rattle.tune_desk.proofs.SpareLemmas.{spares_none, spares_both}
 use Rattle.desk_books.specs.AddedBooks.{reached_at}
 use Rattle.desk_books.proofs.AddLemmas.{continues_first, continues_next, continues_stop}
@@ -8,7 +8,7 @@ use Rattle.desk_books.proofs.taken_books.take_parts.Goals as goal
 
 pub loop-part-init : goal.loop-part-init
 loop-part-init g c = record {
-  files = spares_none (places_of (string_bytes c.args.request.now.file.now) None false) (g.K.Desk.deeds c.args.desk.now);
+  files = spares_none (result_places (string_bytes c.args.request.now.file.now) None false) (g.K.Desk.deeds c.args.desk.now);
   takes = continues_first g.S.TuneStore (string_bytes c.args.request.now.file.now) c.args.parts.items
       (reached_at (g.K.Desk.deeds c.args.desk.now) c.args.store.now c.args.course.now) (into_iter_items c.into_iter-rest.result) c.into_iter-rest.ensures.rest;
 }
@@ -20,7 +20,7 @@ loop-part-preserved g c =
     let here = reached_at (g.K.Desk.deeds c.loop-part.desk) c.loop-part.store c.loop-part.course in
     let mid = reached_at (g.K.Desk.deeds c.take_part-status.new.desk) c.take_part-status.new.store c.take_part-status.new.course in
     record {
-      files = spares_both (places_of file None false) (g.K.Desk.deeds c.args.desk.now) (g.K.Desk.deeds c.loop-part.desk)
+      files = spares_both (result_places file None false) (g.K.Desk.deeds c.args.desk.now) (g.K.Desk.deeds c.loop-part.desk)
           (g.K.Desk.deeds c.take_part-status.new.desk) c.loop-part.invariant.files c.take_part-status.ensures.files;
       takes = continues_next g.S.TuneStore file c.args.parts.items start (into_iter_items c.loop-part.rest) (into_iter_items c.next.new.self)
           c.in-Some.part here mid c.take_part-status.result c.in-Some.ensures.items c.if-status-ne-DONE.false
@@ -29,7 +29,7 @@ loop-part-preserved g c =
 
 pub returns-then-status-ne-DONE-clause-files : goal.returns-then-status-ne-DONE-clause-files
 returns-then-status-ne-DONE-clause-files g c =
-    spares_both (places_of (string_bytes c.args.request.now.file.now) None false) (g.K.Desk.deeds c.args.desk.now) (g.K.Desk.deeds c.loop-part.desk)
+    spares_both (result_places (string_bytes c.args.request.now.file.now) None false) (g.K.Desk.deeds c.args.desk.now) (g.K.Desk.deeds c.loop-part.desk)
     (g.K.Desk.deeds c.take_part-status.new.desk) c.loop-part.invariant.files c.take_part-status.ensures.files
 
 pub returns-then-status-ne-DONE-clause-takes : goal.returns-then-status-ne-DONE-clause-takes

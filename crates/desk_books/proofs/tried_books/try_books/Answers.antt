@@ -1,6 +1,6 @@
 use Rattle.std.proofs.Common.{◌≡◌, inl, inr, None, false, string_bytes}
 use Rattle.tune_store.specs.State.{State}
-use Rattle.tune_desk.specs.Results.{places_of}
+use Rattle.tune_desk.specs.Results.{result_places}
 use Rattle.tune_desk.proofs.SpareLemmas.{spares_both}
 use Rattle.desk_scenes.proofs.FileLemmas.{asked_spares, unasked_spares, quiet_spares}
 use Rattle.desk_books.specs.Givens.{given_by}
@@ -10,7 +10,7 @@ use Rattle.desk_books.proofs.tried_books.try_books.Goals as goal
 
 pub returns-in-Ok-clause-files : goal.returns-in-Ok-clause-files
 returns-in-Ok-clause-files g c =
-    let places = places_of (string_bytes c.args.request.now.file.now) None false in
+    let places = result_places (string_bytes c.args.request.now.file.now) None false in
     let was = g.K.Desk.deeds c.args.desk.now in
     let mid = g.K.Desk.deeds c.ask_holding.new.desk in
     let now = g.K.Desk.deeds c.try_each.new.desk in
@@ -19,7 +19,7 @@ returns-in-Ok-clause-files g c =
 
 pub returns-in-Err-clause-files : goal.returns-in-Err-clause-files
 returns-in-Err-clause-files g c =
-    unasked_spares g.D.Disk (places_of (string_bytes c.args.request.now.file.now) None false) (g.K.Desk.deeds c.args.desk.now)
+    unasked_spares g.D.Disk (result_places (string_bytes c.args.request.now.file.now) None false) (g.K.Desk.deeds c.args.desk.now)
     (g.K.Desk.deeds c.ask_holding.new.desk) c.in-Err.ensures
 
 pub returns-in-Ok-clause-tries : goal.returns-in-Ok-clause-tries

@@ -1,5 +1,5 @@
 use Rattle.std.proofs.Common.{None, false, inl, inr, string_bytes, refl, arith}
-use Rattle.tune_desk.specs.Results.{places_of}
+use Rattle.tune_desk.specs.Results.{result_places}
 use Rattle.tune_desk.proofs.SpareLemmas.{spares_both}
 use Rattle.desk_scenes.proofs.FileLemmas.{quiet_spares}
 use Rattle.desk_changes.specs.declared.replacing.Replacement.{Replacement}
@@ -8,7 +8,7 @@ use Rattle.desk_changes.proofs.replacing.replace.Goals as goal
 
 pub returns-in-Some-clause-files : goal.returns-in-Some-clause-files
 returns-in-Some-clause-files g c =
-    let places = places_of (string_bytes c.args.file.now) None false in
+    let places = result_places (string_bytes c.args.file.now) None false in
     spares_both places (g.K.Desk.deeds c.args.desk.now) (g.K.Desk.deeds c.read_text.new.desk) (g.K.Desk.deeds c.replace_by.new.desk)
     (quiet_spares g.D.Disk places _ _ c.in-Some.ensures.quiet) c.replace_by.ensures.files
 
@@ -31,7 +31,7 @@ returns-in-Some-clause-replaces g c =
     )
 
 pub returns-in-None-clause-files : goal.returns-in-None-clause-files
-returns-in-None-clause-files g c = quiet_spares g.D.Disk (places_of (string_bytes c.args.file.now) None false) _ _ c.in-None.ensures.quiet
+returns-in-None-clause-files g c = quiet_spares g.D.Disk (result_places (string_bytes c.args.file.now) None false) _ _ c.in-None.ensures.quiet
 
 pub returns-in-None-clause-replaces : goal.returns-in-None-clause-replaces
 returns-in-None-clause-replaces g c = inr (c.in-None.ensures.quiet, c.in-None.ensures.output, omega arith)

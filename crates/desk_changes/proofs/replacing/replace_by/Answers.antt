@@ -1,6 +1,6 @@
 use Rattle.std.proofs.Common.{◌∙◌, inl, inr, refl, subst}
 use Rattle.tune_scripts.specs.Streams.{streams_in}
-use Rattle.desk_scenes.specs.Printing.{WritesOut}
+use Rattle.desk_scenes.specs.Printing.{WritesOrFails}
 use Rattle.desk_changes.proofs.replacing.replace_by.Goals as goal
 
 pub returns-in-Ok-clause-replaces : goal.returns-in-Ok-clause-replaces
@@ -10,7 +10,7 @@ returns-in-Ok-clause-replaces g c =
       done.0,
       0,
       inl (refl, done.1),
-      inl (refl, subst (λ line. WritesOut streams line c.print.result) (c.as_slice.ensures.value ∙ done.2) c.print.ensures.1),
+      inl (refl, subst (λ line. WritesOrFails streams line c.print.result) (c.as_slice.ensures.value ∙ done.2) c.print.ensures.1),
     )
 
 pub returns-in-Err-clause-replaces : goal.returns-in-Err-clause-replaces

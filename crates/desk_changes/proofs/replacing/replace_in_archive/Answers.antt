@@ -4,7 +4,7 @@ use Rattle.std.specs.Global.{Vec}
 use Rattle.tune_archive.specs.AsStore.{store_on}
 use Rattle.tune_asking.proofs.CallLemmas.{asked_none}
 use Rattle.tune_undo.specs.declared.old_entries.EntryKind.TheVariants as kind
-use Rattle.desk_changes.specs.ReplacedTunes.{Replaces}
+use Rattle.desk_changes.specs.ReplacedTunes.{ReplacesByTurns}
 use Rattle.desk_changes.specs.declared.words.Unchanged.{Unchanged}
 use Rattle.desk_changes.proofs.AlteringLemmas.{grows_none, look_then}
 use Rattle.desk_changes.proofs.replacing.replace_in_archive.Goals as goal
@@ -31,7 +31,7 @@ returns-in-Err-carry-clause-replaces g c = λ is_open.
     let line = c.in-Ok.told.line.items in
     let result : Result (Vec ℕ) Unchanged = Err c.in-Err-carry.why in (
       line,
-      look_then g.D.Disk (string_bytes c.args.file.now) kind.Replace (Replaces c.args.what line) c.in-Ok.told.turns.items c.args.archive.now
+      look_then g.D.Disk (string_bytes c.args.file.now) kind.Replace (ReplacesByTurns c.args.what line) c.in-Ok.told.turns.items c.args.archive.now
           c.told_turns.new.store c.carry.new.archive _ _ result c.in-Ok.ensures.asked (λ honest. c.in-Ok.ensures.answer is_open honest)
           (rw c.as_slice.ensures.value at c.in-Err-carry.ensures.turns),
       tt,

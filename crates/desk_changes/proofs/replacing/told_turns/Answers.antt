@@ -2,7 +2,7 @@ use Rattle.std.proofs.Common.{ap, sym, ◌∙◌, rules}
 use Rattle.tune_store.specs.State.{tune_at}
 use Rattle.tune_asking.proofs.CallLemmas.{goes_none, goes_on, good_of, call_ok, call_err, call_no_memory}
 use Rattle.tune_changes.proofs.PlanLemmas.{tune_found}
-use Rattle.desk_changes.specs.ReplacedTunes.{line_of}
+use Rattle.desk_changes.specs.ReplacedTunes.{replaced_line}
 use Rattle.desk_changes.proofs.ReplacingLemmas.{unknown_planned}
 use Rattle.desk_changes.proofs.replacing.told_turns.Goals as goal
 
@@ -33,6 +33,6 @@ returns g c =
     let there = tune_at what.number (k.state c.args.store.now).tunes in
     call_ok k _ _ _ _ (goes_on k _ _ _ _ _ one c.in_ok-turns.ensures) (λ is_open honest. record {
       planned = good_of k _ _ _ _ _ one c.in_ok-turns.ensures is_open honest;
-      told = c.in_ok-line.ensures ∙ ap (line_of what) (sym (tune_found what.number there c.in_ok-tune.tune
+      told = c.in_ok-line.ensures ∙ ap (replaced_line what) (sym (tune_found what.number there c.in_ok-tune.tune
           (good_of k _ _ _ _ _ start c.in_ok-tune.ensures is_open (c.in_ok-turns.ensures.asked.was_honest honest))));
     })

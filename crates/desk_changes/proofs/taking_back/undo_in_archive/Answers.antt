@@ -1,6 +1,6 @@
 use Rattle.std.proofs.Common.{◌≡◌, List, None, false, inl, refl, rules, subst, string_bytes}
 use Rattle.std.proofs.lemmas.Result.{err_from_is_err_and}
-use Rattle.tune_desk.specs.Results.{places_of}
+use Rattle.tune_desk.specs.Results.{result_places}
 use Rattle.desk_scenes.proofs.FileLemmas.{quiet_spares}
 use Rattle.tune_undo.specs.declared.old_entries.Step.{Step}
 use Rattle.desk_changes.specs.OldChanges.{ReadsSteps}
@@ -12,13 +12,13 @@ use Rattle.desk_changes.proofs.taking_back.undo_in_archive.Goals as goal
 pub returns-in_err-changes-clause-works : goal.returns-in_err-changes-clause-works
 returns-in_err-changes-clause-works g c =
     let file = string_bytes c.args.file.now in
-    beside_files g.D.Disk file _ _ _ (quiet_spares g.D.Disk (places_of file None false) _ _ c.in_err-changes.ensures)
+    beside_files g.D.Disk file _ _ _ (quiet_spares g.D.Disk (result_places file None false) _ _ c.in_err-changes.ensures)
 
 pub returns-clause-works : goal.returns-clause-works
 returns-clause-works g c =
     let file = string_bytes c.args.file.now in
     beside_both g.D.Disk file _ _ _ _ _ _
-    (beside_files g.D.Disk file _ _ _ (quiet_spares g.D.Disk (places_of file None false) _ _ (reads_quiet file _ _ _ c.in_ok-changes.ensures)))
+    (beside_files g.D.Disk file _ _ _ (quiet_spares g.D.Disk (result_places file None false) _ _ (reads_quiet file _ _ _ c.in_ok-changes.ensures)))
     c.undo_times.ensures.works
 
 pub returns-in_err-changes-clause-undoes : goal.returns-in_err-changes-clause-undoes

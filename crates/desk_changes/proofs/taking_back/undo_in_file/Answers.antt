@@ -1,7 +1,7 @@
 use Rattle.std.proofs.Common.{refl, None, false, Ok, inl, inr, string_bytes}
 use Rattle.tune_disk.specs.declared.file.Access.TheVariants.{Change}
 use Rattle.tune_desk.specs.DeskDeeds.{opened, closed}
-use Rattle.tune_desk.specs.Results.{places_of}
+use Rattle.tune_desk.specs.Results.{result_places}
 use Rattle.desk_scenes.proofs.FileLemmas.{spares_since, visits_read}
 use Rattle.desk_changes.proofs.AlteringLemmas.{around_spares}
 use Rattle.desk_changes.proofs.UndoLemmas.{within_file}
@@ -10,7 +10,7 @@ use Rattle.desk_changes.proofs.taking_back.undo_in_file.Goals as goal
 
 pub returns-in-Err-clause-files : goal.returns-in-Err-clause-files
 returns-in-Err-clause-files g c =
-    let places = places_of (string_bytes c.args.file.now) None false in
+    let places = result_places (string_bytes c.args.file.now) None false in
     let did = c.in-Err.ensures in
     spares_since g.D.Disk places (g.K.Desk.deeds c.args.desk.now) (g.K.Desk.deeds c.open_once.new.desk) did.0 did.1
     (visits_read g.D.Disk places Change did.0 did.2)

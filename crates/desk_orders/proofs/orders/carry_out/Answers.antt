@@ -2,7 +2,7 @@ use Rattle.std.proofs.Common.{◌≡◌, string_bytes, refl}
 use Rattle.std.specs.Prelude.{Ok, None, false}
 use Rattle.tune_cli.specs.ProgramLines.{counts_bytes}
 use Rattle.tune_scripts.specs.Streams.{streams_in}
-use Rattle.tune_desk.specs.Results.{places_of}
+use Rattle.tune_desk.specs.Results.{result_places}
 use Rattle.desk_questions.specs.Told.{told}
 use Rattle.desk_words.specs.declared.asked.Order.TheVariants as order
 use Rattle.desk_scenes.proofs.FileLemmas.{quiet_spares}
@@ -63,12 +63,12 @@ returns-in-Ask-clause-files g c = kept_by (string_bytes c.args.file.now) c.args.
 pub returns-in-CheckBooks-clause-files : goal.returns-in-CheckBooks-clause-files
 returns-in-CheckBooks-clause-files g c = kept_by (string_bytes c.args.file.now) c.args.order.now (order.CheckBooks c.in-CheckBooks.paths)
     (g.K.Desk.deeds c.args.desk.now) (g.K.Desk.deeds c.check_books.new.desk) c.in-CheckBooks.is
-    (quiet_spares g.D.Disk (places_of (string_bytes c.args.file.now) None false) _ _ c.check_books.ensures.quiet)
+    (quiet_spares g.D.Disk (result_places (string_bytes c.args.file.now) None false) _ _ c.check_books.ensures.quiet)
 
 pub returns-in-CheckCopy-clause-files : goal.returns-in-CheckCopy-clause-files
 returns-in-CheckCopy-clause-files g c = kept_by (string_bytes c.args.file.now) c.args.order.now (order.CheckCopy c.in-CheckCopy.copy)
     (g.K.Desk.deeds c.args.desk.now) (g.K.Desk.deeds c.check_copy.new.desk) c.in-CheckCopy.is
-    (quiet_spares g.D.Disk (places_of (string_bytes c.args.file.now) None false) _ _ c.check_copy.ensures.files)
+    (quiet_spares g.D.Disk (result_places (string_bytes c.args.file.now) None false) _ _ c.check_copy.ensures.files)
 
 pub returns-in-Make-clause-files : goal.returns-in-Make-clause-files
 returns-in-Make-clause-files g c = kept_by (string_bytes c.args.file.now) c.args.order.now order.Make (g.K.Desk.deeds c.args.desk.now)

@@ -2,7 +2,7 @@ use Rattle.std.proofs.Common.{◌≡◌, ◌≤◌, ◌<◌, ◌++◌, [], ◌�
 use Rattle.std.proofs.Common.{append_assoc, codes, inl, inr}
 use Rattle.tune_asking.proofs.CallLemmas.{goes_none, goes_on, good_of, call_ok, call_err, call_no_memory, call_refused, call_refused_by, call_same}
 use Rattle.desk_lists.specs.ListForms.{tune_list_bytes}
-use Rattle.desk_questions.specs.Told.{listed, chosen}
+use Rattle.desk_questions.specs.Told.{listed_tunes, chosen}
 use Rattle.desk_questions.specs.Inside.QuestionCalls.{AreRowsAt}
 use Rattle.desk_questions.proofs.RowLemmas.{told_found, told_nothing, rows_of_chosen, chosen_never_refused}
 use Rattle.desk_questions.proofs.told_answers.random.Goals as goal
@@ -11,7 +11,7 @@ pub returns-in_err-numbers : goal.returns-in_err-numbers
 returns-in_err-numbers g c =
     let k = g.S.TuneStore in
     call_err k _ _ _ _ _ _ _ (goes_none k _) c.in_err-numbers.ensures
-    (λ is_open honest refused same. told_nothing (λ tunes. listed c.args.form (chosen c.args.chance tunes)) c.args.conditions.now
+    (λ is_open honest refused same. told_nothing (λ tunes. listed_tunes c.args.form (chosen c.args.chance tunes)) c.args.conditions.now
     (k.state c.args.store.now) refused.0 ∙ ap Err (sym refused.1)) (search rules)
 
 pub returns-in_err-tune_list : goal.returns-in_err-tune_list
@@ -39,6 +39,6 @@ returns g c =
     let state = k.state c.args.store.now in
     let are = good_of k _ _ _ _ _ start c.in_ok-numbers.ensures is_open (c.in_ok-rows.ensures.asked.was_honest honest) in
     let rows = good_of k _ _ _ _ _ goes c.in_ok-rows.ensures is_open honest in
-    told_found (λ tunes. listed c.args.form (chosen c.args.chance tunes)) c.args.conditions.now state are.asks
+    told_found (λ tunes. listed_tunes c.args.form (chosen c.args.chance tunes)) c.args.conditions.now state are.asks
     ∙ ap Ok (ap (tune_list_bytes c.args.form) (sym (rows_of_chosen c.args.conditions.now _ state _ c.args.chance _ are
     (rw (c.chosen.ensures, c.as_slice.ensures.value) at rows) same)) ∙ search rules))

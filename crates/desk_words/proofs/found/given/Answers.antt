@@ -2,7 +2,7 @@ use Rattle.std.proofs.Common.{◌≡◌, ◌∙◌, ap, sym, [], ◌++◌, Optio
 use Rattle.std.specs.Prelude.{unwrap_or}
 use Rattle.clap.specs.Words.{Text, all_of, found_of, rows_of}
 use Rattle.clap.proofs.WalkLemmas.{raw_values-rows}
-use Rattle.desk_words.specs.Inside.Sorting.{texts_of}
+use Rattle.desk_words.specs.Inside.Sorting.{texts_behind}
 use Rattle.desk_words.proofs.found.given.Goals as goal
 
 abbrev texts_in : Option (Bor (List (Bor Text))) → Option (List Text)
@@ -14,8 +14,8 @@ returns-in_ok-put_all-in-Some c =
     let id = c.args.id.now in
     let words = c.in-Some.words.now in
     let all : texts_in c.get_strs.result ≡ all_of id (rows_of f) = c.get_strs.ensures ∙ raw_values-rows f id in
-    let some : Some (texts_of words) ≡ all_of id (rows_of f) = ap texts_in (sym c.in-Some.is) ∙ all in
-    c.in_ok-put_all-in-Some.ensures ∙ ap (λ xs. texts_of xs ++ texts_of words) c.new-all.ensures.items ∙ ap (λ o. unwrap_or o []) some
+    let some : Some (texts_behind words) ≡ all_of id (rows_of f) = ap texts_in (sym c.in-Some.is) ∙ all in
+    c.in_ok-put_all-in-Some.ensures ∙ ap (λ xs. texts_behind xs ++ texts_behind words) c.new-all.ensures.items ∙ ap (λ o. unwrap_or o []) some
 
 pub returns-in-None : goal.returns-in-None
 returns-in-None c =
@@ -23,4 +23,4 @@ returns-in-None c =
     let id = c.args.id.now in
     let all : texts_in c.get_strs.result ≡ all_of id (rows_of f) = c.get_strs.ensures ∙ raw_values-rows f id in
     let none : None ≡ all_of id (rows_of f) = ap texts_in (sym c.in-None.is) ∙ all in
-    ap texts_of c.new-all.ensures.items ∙ ap (λ o. unwrap_or o []) none
+    ap texts_behind c.new-all.ensures.items ∙ ap (λ o. unwrap_or o []) none

@@ -1,6 +1,6 @@
 use Rattle.std.proofs.Common.{◌≡◌, ◌∙◌, ap, sym, subst, ◌++◌, List, Option, Result, codes, map, option_map, Bor}
 use Rattle.clap.specs.Words.{Text, found_of, rows_of}
-use Rattle.desk_words.specs.WordAnswers.{Gives, WordRefusal, and_then}
+use Rattle.desk_words.specs.WordAnswers.{GivesWanted, WordRefusal, and_then}
 use Rattle.desk_words.specs.SoughtConditions.{ConditionMeaning, by_options, by_words, key_used, sought_by, sought_in}
 use Rattle.desk_words.specs.Given.{given, is_set}
 use Rattle.desk_words.proofs.sought_conditions.conditions.Goals as goal
@@ -16,5 +16,5 @@ returns c =
     ap (λ k. and_then (by k) (last k)) (sym c.value-key.ensures)
     ∙ ap (λ r. and_then r (last key)) c.in_ok-all.ensures
     ∙ ap (key_used key) (sym c.in_ok-put_options.ensures) in
-    let Says : Result (List ConditionMeaning) WordRefusal → Type 0 = λ wanted. Gives (λ all. map sought_by all.items) wanted c.key_used.result in
+    let Says : Result (List ConditionMeaning) WordRefusal → Type 0 = λ wanted. GivesWanted (λ all. map sought_by all.items) wanted c.key_used.result in
     subst Says (sym same) c.key_used.ensures

@@ -2,7 +2,7 @@ use Rattle.std.proofs.Common.{◌+◌, ◌∙◌, ap, sym, drop}
 use Rattle.std.specs.Prelude.{nat_le}
 use Rattle.abc_fields.specs.FileHeaders.{has_letter}
 use Rattle.abc_fields.specs.declared.carry_rules.CarryRule.TheVariants.{Never}
-use Rattle.told_books.specs.Inside.Sums.{sum_carried}
+use Rattle.told_books.specs.Inside.Sums.{sum_carried_by}
 use Rattle.told_books.specs.declared.sums.RuleSum.{RuleSum}
 use Rattle.told_books.proofs.SumLemmas.{fit_more, fit_other}
 use Rattle.told_books.proofs.sums.fit.Goals as goal
@@ -19,7 +19,7 @@ loop-sum-preserved c = λ own is.
           w.if-sum-left.false w.left-is
           ∙ c.loop-sum.invariant own is
       | else-carry w ↦
-          ap (nat_le (sum_carried (has_letter own) (drop (i + 1) sums))) w.left-is
+          ap (nat_le (sum_carried_by (has_letter own) (drop (i + 1) sums))) w.left-is
           ∙ ap (λ n. nat_le n c.loop-sum.left) (fit_other (has_letter own) sums i none c.loop-sum-test.true (sym (c.carry.ensures own is) ∙ w.if-carry.false))
           ∙ c.loop-sum.invariant own is
     ]

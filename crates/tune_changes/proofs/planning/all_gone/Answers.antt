@@ -2,7 +2,7 @@ use Rattle.std.proofs.Common.{◌≡◌, ◌+◌, [], ◌∷◌, ◌++◌, List,
 use Rattle.tune_store.specs.declared.command.Refusal.{Refusal}
 use Rattle.tune_asking.proofs.CallLemmas.{goes_none, goes_on, good_of, call_ok, call_err, call_no_memory}
 use Rattle.tune_changes.specs.Inside.TurnPlans.{all_gone}
-use Rattle.tune_changes.specs.Planning.{with_more}
+use Rattle.tune_changes.specs.Planning.{turn_with_more}
 use Rattle.tune_changes.specs.declared.turns.Turn.{Turn}
 use Rattle.tune_changes.proofs.PlanLemmas.{before, before_none, before_more, gone_next, gone_end}
 use Rattle.tune_changes.proofs.planning.all_gone.Goals as goal
@@ -31,7 +31,7 @@ loop-place-preserved g c =
       planned = λ is_open h.
           was.planned is_open (c.in_ok-gone_at.ensures.asked.was_honest h)
           ∙ ap (before turns) (gone_next numbers held i state (omega arith) c.requires
-          ∙ ap (λ (its : Result Turn Refusal). with_more its rest) (good_of k _ _ _ _ _ was.goes c.in_ok-gone_at.ensures is_open h))
+          ∙ ap (λ (its : Result Turn Refusal). turn_with_more its rest) (good_of k _ _ _ _ _ was.goes c.in_ok-gone_at.ensures is_open h))
           ∙ before_more turns turn rest ∙ ap (λ (done : List Turn). before done rest) (sym c.in_ok-push.ensures.items);
     }
 
@@ -47,7 +47,7 @@ returns-in_err-gone_at g c =
     call_err k _ _ _ _ _ _ _ was.goes c.in_err-gone_at.ensures
     (λ is_open h refused. was.planned is_open (c.in_err-gone_at.ensures.asked.was_honest h)
     ∙ ap (before c.loop-place.turns.items) (gone_next numbers held i state (omega arith) c.requires
-    ∙ ap (λ (its : Result Turn Refusal). with_more its rest) refused)) (search rules)
+    ∙ ap (λ (its : Result Turn Refusal). turn_with_more its rest) refused)) (search rules)
 
 pub returns-in_err-push : goal.returns-in_err-push
 returns-in_err-push g c =

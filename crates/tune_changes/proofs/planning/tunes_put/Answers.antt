@@ -4,7 +4,7 @@ use Rattle.tune_sets.specs.declared.set_lists.TuneSet.{TuneSet}
 use Rattle.tune_store.specs.declared.command.Refusal.{Refusal}
 use Rattle.tune_asking.specs.Asking.{IsToldOrFault}
 use Rattle.tune_asking.proofs.CallLemmas.{goes_none, goes_on, good_of}
-use Rattle.tune_changes.specs.Inside.TurnPlans.{numbers_in}
+use Rattle.tune_changes.specs.Inside.TurnPlans.{numbers_of_set}
 use Rattle.tune_changes.specs.Planning.{numbers_put, tunes_put}
 use Rattle.tune_changes.specs.declared.turns.Turn.{Turn}
 use Rattle.tune_changes.proofs.PlanLemmas.{planned_then, put_known}
@@ -19,7 +19,7 @@ returns g c =
     let turn = c.numbers_put-turn.result in
     let start = goes_none k c.args.store.now in
     let good : is_good_name name ≡ true = search (rules, c.in-Some.ensures.good) in
-    let put : List ℕ → List TuneSet → Result Turn Refusal = λ n sets. numbers_put n numbers sets (numbers_in n sets) in
+    let put : List ℕ → List TuneSet → Result Turn Refusal = λ n sets. numbers_put n numbers sets (numbers_of_set n sets) in
     planned_then k _ _ _ _ _ (goes_on k _ _ _ _ _ start c.in_ok-look_for.ensures)
     (λ is_open h same.
     let known = good_of k _ _ _ _ _ start c.in_ok-look_for.ensures is_open h in

@@ -1,5 +1,5 @@
 use Rattle.std.proofs.Common.{◌≡◌, Option, List, ℕ, Some, refl, sym, ap, ◌∙◌, subst, inl, inr, rules}
-use Rattle.tune_changes.specs.Inside.TurnPlans.{numbers_in}
+use Rattle.tune_changes.specs.Inside.TurnPlans.{numbers_of_set}
 use Rattle.tune_asking.specs.Asking.{IsToldOrFault}
 use Rattle.tune_changes.specs.Planning.{numbers_put}
 use Rattle.tune_changes.proofs.PlanLemmas.{found_at}

@@ -1,5 +1,5 @@
 use Rattle.std.proofs.Common.{◌≡◌, Option, List, ℕ, Some, refl, sym, ap, ◌∙◌, subst, inl, inr, rules}
-use Rattle.tune_changes.specs.Inside.TurnPlans.{numbers_in}
+use Rattle.tune_changes.specs.Inside.TurnPlans.{numbers_of_set}
 use Rattle.tune_changes.proofs.PlanLemmas.{found_at, moved_set}
 use Rattle.tune_changes.proofs.set_turns.place_moved.Goals as goal
 
@@ -7,7 +7,7 @@ pub returns : goal.returns
 returns c =
     let name = c.args.name.now in
     let found = found_at name name _ c.args.sets.now c.in-Some.set.now refl c.as_slice.ensures.value c.in-Some.ensures in
-    moved_set name c.in-Some.set.now.name c.args.place c.args.to (numbers_in name c.args.sets.now) c.as_slice-old.result.now c.in_ok-list_of.field-0
+    moved_set name c.in-Some.set.now.name c.args.place c.args.to (numbers_of_set name c.args.sets.now) c.as_slice-old.result.now c.in_ok-list_of.field-0
     c.in_ok-moved.field-0
     (found.0 ∙ ap Some (sym c.as_slice-old.ensures)) found.1 (sym c.have_places.ensures ∙ c.if-not-have_places.false) c.in_ok-list_of.ensures
     c.in_ok-moved.ensures

@@ -3,7 +3,7 @@ use Rattle.tune_store.specs.State.{State, greatest}
 use Rattle.tune_store.specs.declared.tune.Tune.{Tune}
 use Rattle.tune_store.specs.declared.command.Command.TheVariants.{Import}
 use Rattle.tune_asking.proofs.CallLemmas.{goes_none, good_of}
-use Rattle.tune_changes.specs.Bringing.{book_with, renumbered, tune_commands}
+use Rattle.tune_changes.specs.Bringing.{book_with, renumber_commands, tune_commands}
 use Rattle.tune_changes.proofs.CarryLemmas.{partly_none, partly_asked, carries_asked_err, carries_last}
 use Rattle.tune_changes.proofs.LookLemmas.{never_refused, same_told}
 use Rattle.tune_changes.proofs.tune_bringing.put_text.Goals as goal
@@ -21,7 +21,7 @@ returns-in-None g c =
     c.take_in.ensures
     (λ is_open h. ap (λ (there : Option Tune). tune_commands last c.args.number there (Some c.args.text.now))
     (same_told _ _ (good_of k _ _ _ _ _ (goes_none k _) c.in_ok-tune_if_any.ensures is_open h) ∙ c.in-None.is)
-    ∙ ap (λ (state : State). Import (book_with c.args.number c.args.text.now) ∷ renumbered (greatest state.tunes + 1) c.args.number)
+    ∙ ap (λ (state : State). Import (book_with c.args.number c.args.text.now) ∷ renumber_commands (greatest state.tunes + 1) c.args.number)
     (sym (c.in_ok-tune_if_any.ensures.asked.same_state h)))
 
 pub returns-in-Some : goal.returns-in-Some

@@ -4,7 +4,7 @@ use Rattle.std.proofs.Common.{append_assoc, length, ◌+◌, arith, ◌≡◌, [
 use Rattle.tune_pages.specs.Stand.{PutsChain}
 use Rattle.tune_pages.specs.Work.{stand}
 use Rattle.tune_store.specs.declared.tune.Tune.{Tune}
-use Rattle.tune_format.specs.Written.{written_text, written_tune}
+use Rattle.tune_format.specs.Written.{written_text, stored_tune}
 use Rattle.tune_format.specs.declared.rows.Row.{Row}
 use Rattle.tune_contents.specs.Inside.Laying.{LaysTunes}
 use Rattle.tune_contents.proofs.LayLemmas.{adds_tune}
@@ -14,7 +14,7 @@ pub returns-clause-lays : goal.returns-clause-lays
 returns-clause-lays g c = λ rows.
     (let tune : Tune = record { number = c.args.number; revision = 1; text = c.args.text.now } in
     let row : Row = record { number = c.args.number; revision = 1; first = c.in_ok-first.first; length = length c.args.text.now } in
-    let bytes : c.deref.result.now ≡ written_tune tune = c.deref.ensures.value ∙ c.in-Ok.ensures
+    let bytes : c.deref.result.now ≡ stored_tune tune = c.deref.ensures.value ∙ c.in-Ok.ensures
     ∙ ap (λ (text : List ℕ). written_text 1 text) c.bytes.ensures.value in
     let pushed : c.push.new.self.items ≡ c.args.more.now.items ++ row ∷ [] = search rules in
     let old = stand c.args.pages.now c.args.work.now in

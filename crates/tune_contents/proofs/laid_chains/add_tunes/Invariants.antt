@@ -6,7 +6,7 @@ use Rattle.tune_store.specs.TuneSteps.{numbered}
 use Rattle.tune_format.specs.declared.rows.Row.{Row}
 use Rattle.tune_contents.specs.Inside.Takes.{text_pages}
 use Rattle.tune_contents.specs.Inside.Laying.{LaysTunes}
-use Rattle.tune_contents.specs.Inside.TuneRows.{numbers_in}
+use Rattle.tune_contents.specs.Inside.TuneRows.{numbers_of_rows}
 use Rattle.tune_contents.proofs.laid_chains.add_tunes.Given as goal
 
 abbrev pub invariant-loop-text : goal.invariant-loop-text
@@ -16,5 +16,5 @@ invariant-loop-text g l = record {
   lays : (rows : List Row) → LaysTunes (stand l.pages l.fn.work) (stand l.pages l.work) rows (rows ++ l.more.items)
       (λ tunes. tunes ++ numbered l.first (take l.text-index l.texts));
   takes : free_pages (stand l.pages l.fn.work).used ≤ free_pages (stand l.pages l.work).used + text_pages (take l.text-index l.texts);
-  rows : numbers_in l.more.items ≡ range_with_len l.first l.text-index;
+  rows : numbers_of_rows l.more.items ≡ range_with_len l.first l.text-index;
 }

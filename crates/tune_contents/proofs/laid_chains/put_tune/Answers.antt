@@ -1,6 +1,6 @@
 use Rattle.std.proofs.Common.{◌≡◌, ◌∙◌, ap, refl, subst, List, ℕ}
 use Rattle.tune_pages.specs.Work.{stand}
-use Rattle.tune_format.specs.Written.{written_text, written_tune}
+use Rattle.tune_format.specs.Written.{written_text, stored_tune}
 use Rattle.tune_contents.specs.Inside.Laying.{SwapsChain}
 use Rattle.tune_contents.proofs.LayLemmas.{some_chain, puts_tune}
 use Rattle.tune_contents.proofs.laid_chains.put_tune.Goals as goal
@@ -13,7 +13,7 @@ swap_chain-requires-clause-chain g c = λ h.
 pub returns-clause-lays : goal.returns-clause-lays
 returns-clause-lays g c = λ h. rw c.bytes-2.ensures.value
     (let tune = c.args.tune.now in
-    let bytes : c.deref.result.now ≡ written_tune tune = c.deref.ensures.value ∙ c.in-Ok.ensures
+    let bytes : c.deref.result.now ≡ stored_tune tune = c.deref.ensures.value ∙ c.in-Ok.ensures
     ∙ ap (λ (text : List ℕ). written_text tune.revision text) c.bytes.ensures.value in
     let old = stand c.args.pages.now c.args.work.now in
     let new = stand c.swap_chain.new.pages c.swap_chain.new.work in

@@ -1,7 +1,7 @@
 use Rattle.std.proofs.Common.{◌≡◌, rules, inl, inr, Err, string_bytes}
 use Rattle.tune_desk.specs.Inside.Asks.{MayBeWritten}
 use Rattle.tune_desk.specs.Refusals.{HasCause}
-use Rattle.tune_desk.specs.Results.{places_of}
+use Rattle.tune_desk.specs.Results.{result_places}
 use Rattle.tune_desk.specs.declared.refusals.ResultRefusal.TheVariants.{OutOfMemory}
 use Rattle.tune_desk.proofs.AskLemmas.{asks_map}
 use Rattle.tune_desk.proofs.BeginLemmas.{created_at}
@@ -14,7 +14,7 @@ returns-in_err-over-clause-begins g c =
 
 pub returns-in_default-clause-begins : goal.returns-in_default-clause-begins
 returns-in_default-clause-begins g c = λ out.
-    let places = places_of (string_bytes c.args.file.now) out c.args.force in
+    let places = result_places (string_bytes c.args.file.now) out c.args.force in
     let target = string_bytes c.args.target.now in
     inl (asks_map (MayBeWritten places target c.in_ok-over.over) (HasCause places target OutOfMemory) _ _ (λ since _. tt) (c.in_ok-over.ensures out))
 

@@ -3,7 +3,7 @@ use Rattle.tune_desk.specs.DeskDeeds.{grown}
 use Rattle.tune_desk.specs.Inside.Asks.{Asks}
 use Rattle.tune_desk.specs.Inside.Growths.{FindsOld}
 use Rattle.tune_desk.specs.OldTexts.{IsPieceOf}
-use Rattle.tune_desk.specs.Results.{MayGrow, old_of, places_of}
+use Rattle.tune_desk.specs.Results.{MayGrow, old_of, result_places}
 use Rattle.tune_desk.proofs.OldTextsLemmas.{asked_spares, grown_spares, grows, grows_not, growth_failed, nothing_grown}
 use Rattle.tune_desk.proofs.old_texts.grow_old_texts.Goals as goal
 

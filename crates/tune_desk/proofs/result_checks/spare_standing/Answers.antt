@@ -2,7 +2,7 @@ use Rattle.std.proofs.Common.{◌≡◌, true, false, refl, rules, Ok, Err, stri
 use Rattle.std.specs.List.{Contains}
 use Rattle.tune_desk.specs.DeskDeeds.{tested}
 use Rattle.tune_desk.specs.Inside.Asks.{IsReplaceable}
-use Rattle.tune_desk.specs.Results.{places_of, archive_head}
+use Rattle.tune_desk.specs.Results.{result_places, archive_head}
 use Rattle.tune_desk.specs.Refusals.{HasFault}
 use Rattle.tune_desk.proofs.AskLemmas.{tested_later}
 use Rattle.tune_desk.proofs.DeedLists.{covers_front, covers_rest, first_of_one, apart-more}
@@ -10,7 +10,7 @@ use Rattle.tune_desk.proofs.result_checks.spare_standing.Goals as goal
 
 pub returns-in-Ok-true : goal.returns-in-Ok-true
 returns-in-Ok-true g c = λ out.
-    let places = places_of (string_bytes c.args.file.now) out c.args.force in
+    let places = result_places (string_bytes c.args.file.now) out c.args.force in
     let target = string_bytes c.args.target.now in
     let differ : c.in_ok-are_same.field-0 ≡ false = search rules in
     let is : c.in-Ok-true.field-0 ≡ true = search rules in
@@ -20,7 +20,7 @@ returns-in-Ok-true g c = λ out.
 
 pub returns-in-Ok-false : goal.returns-in-Ok-false
 returns-in-Ok-false g c = λ out.
-    let places = places_of (string_bytes c.args.file.now) out c.args.force in
+    let places = result_places (string_bytes c.args.file.now) out c.args.force in
     let target = string_bytes c.args.target.now in
     let differ : c.in_ok-are_same.field-0 ≡ false = search rules in
     let is : c.in-Ok-false.field-0 ≡ false = search rules in
@@ -35,7 +35,7 @@ returns-in-Ok-false g c = λ out.
 
 pub returns-in-Err : goal.returns-in-Err
 returns-in-Err g c = λ out.
-    let places = places_of (string_bytes c.args.file.now) out c.args.force in
+    let places = result_places (string_bytes c.args.file.now) out c.args.force in
     let target = string_bytes c.args.target.now in
     let differ : c.in_ok-are_same.field-0 ≡ false = search rules in
     let deed = tested target archive_head (Err c.in-Err.fault) in

@@ -1,7 +1,7 @@
 use Rattle.std.proofs.Common.{◌≡◌, rules, refl, inl, inr, Err, string_bytes}
 use Rattle.tune_desk.specs.Inside.Asks.{MayBeWritten}
 use Rattle.tune_desk.specs.Refusals.{HasCause}
-use Rattle.tune_desk.specs.Results.{places_of}
+use Rattle.tune_desk.specs.Results.{result_places}
 use Rattle.tune_desk.specs.declared.refusals.ResultRefusal.TheVariants.{OutOfMemory}
 use Rattle.tune_desk.proofs.AskLemmas.{asks_map}
 use Rattle.tune_desk.proofs.results.write_to.Goals as goal
@@ -13,7 +13,7 @@ returns-in_err-over g c =
 
 pub returns-in_default : goal.returns-in_default
 returns-in_default g c = λ out.
-    let places = places_of (string_bytes c.args.file.now) out c.args.force in
+    let places = result_places (string_bytes c.args.file.now) out c.args.force in
     let target = string_bytes c.args.target.now in
     inl (
       OutOfMemory,

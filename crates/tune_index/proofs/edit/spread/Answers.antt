@@ -5,7 +5,7 @@ use Rattle.tune_pages.specs.Frame.{InUse}
 use Rattle.tune_pages.specs.Work.{stand}
 use Rattle.tune_pages.proofs.Frames.{trades_none, trades_then}
 use Rattle.index_keys.specs.Entries.{Entry}
-use Rattle.tune_index.specs.Inside.LeafLists.{joined}
+use Rattle.tune_index.specs.Inside.LeafLists.{joined_leaves}
 use Rattle.tune_index.proofs.Answering.{change_more}
 use Rattle.tune_index.proofs.Changes.{list_none, list_then}
 use Rattle.tune_index.proofs.LeafLists.{spread_more, spread_done, length-leaves}
@@ -28,7 +28,7 @@ loop-rest-init g c = record {
     h,
     record {
       before = refl;
-      behind = sym (ap (λ (x : List Entry). x ++ joined (drop (c.args.place + 1) leaves)) (drop-length c.args.entries.now));
+      behind = sym (ap (λ (x : List Entry). x ++ joined_leaves (drop (c.args.place + 1) leaves)) (drop-length c.args.entries.now));
     },
   );
 }

@@ -1,6 +1,6 @@
 use Rattle.std.proofs.Common.{◌≡◌, ℕ, ◌+◌, List, ◌∷◌, [], ◌++◌, take, rules, arith, subst, sym, ap, ◌∙◌, inr}
 use Rattle.std.proofs.lemmas.List.{take_more}
-use Rattle.index_keys.specs.Entries.{Entry, IsRising, inserted, AllFit, inserted_all}
+use Rattle.index_keys.specs.Entries.{Entry, IsRising, entry_inserted, AllFit, inserted_all}
 use Rattle.index_keys.proofs.RisingEntries.{inserted_all_rises}
 use Rattle.tune_index.proofs.Codec.{AllFit-push}
 use Rattle.tune_index.proofs.Runs.{inserted_all-append}
@@ -18,7 +18,7 @@ loop-entry-preserved g c =
           let old = i.so_far up in
           let up2 : IsRising c.loop-entry.leaf.items =
           subst (λ (x : List Entry). IsRising x) (sym old) (inserted_all_rises (take c.loop-entry.entry-index c.args.part.now) c.args.leaf.now.items up) in
-          c.in_ok-insert_in.ensures.ok up2 ∙ ap (λ (k : ℕ). inserted (k, e.1) c.loop-entry.leaf.items) c.copy.ensures ∙ ap (inserted e) old
+          c.in_ok-insert_in.ensures.ok up2 ∙ ap (λ (k : ℕ). entry_inserted (k, e.1) c.loop-entry.leaf.items) c.copy.ensures ∙ ap (entry_inserted e) old
           ∙ sym (inserted_all-append (take c.loop-entry.entry-index c.args.part.now) (e ∷ []) c.args.leaf.now.items)
           ∙ ap (λ (x : List Entry). inserted_all x c.args.leaf.now.items) (sym t);
       within = omega (arith, i.within, c.in_ok-insert_in.ensures.within);

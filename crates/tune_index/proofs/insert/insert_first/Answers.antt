@@ -5,7 +5,7 @@ use Rattle.tune_pages.specs.Work.{stand}
 use Rattle.tune_pages.proofs.Frames.{trades_none, trades_then}
 use Rattle.index_keys.specs.Entries.{Entry}
 use Rattle.tune_index.specs.Indexes.{HasPages}
-use Rattle.tune_index.specs.Inside.LeafLists.{joined, leaves_of}
+use Rattle.tune_index.specs.Inside.LeafLists.{joined_leaves, leaves_of}
 use Rattle.tune_index.proofs.Answering.{change_more}
 use Rattle.tune_index.proofs.Changes.{list_then}
 use Rattle.tune_index.proofs.EachPage.{each_of}
@@ -23,7 +23,7 @@ none_has s ps l = subst (λ (x : List ℕ). HasPages s x) (sym (none_at_all ps l
 
 -- the entries that took the place of the only leaf are all
 only_leaf : (s : Stand) (width : ℕ) (ps : List ℕ) (leaf run all : List Entry) → length ps ≤ 0
-    → all ≡ joined (take 0 (insert (leaves_of width s ps) 0 leaf)) ++ (run ++ joined (drop 1 (insert (leaves_of width s ps) 0 leaf)))
+    → all ≡ joined_leaves (take 0 (insert (leaves_of width s ps) 0 leaf)) ++ (run ++ joined_leaves (drop 1 (insert (leaves_of width s ps) 0 leaf)))
     → all ≡ run
 only_leaf s width [] leaf run all l e = e ∙ append-nil run
 only_leaf s width (p ∷ ps) leaf run all l e = absurd (omega arith)
@@ -79,7 +79,7 @@ returns-in-Ok-spread-clause-entries g c = λ ix.
     let one = c.in-Ok.ensures.leaves has0 (leaves_of g.row.W s0 was.pages) (leaves_of_index g.row.W s0 was ix) in
     let all = c.in-Ok-spread.ensures.leaves (c.in-Ok.ensures.pages has0) _ one in
     first_leaves g.row.W s0 (stand c.args.pages.now c.spread.new.work) was c.spread.new.index c.args.run.now all.0 c.requires.rising c.check_run.ensures none
-    all.1 (only_leaf s0 g.row.W was.pages (take 1 c.args.run.now) c.args.run.now (joined all.0) none all.2)
+    all.1 (only_leaf s0 g.row.W was.pages (take 1 c.args.run.now) c.args.run.now (joined_leaves all.0) none all.2)
 
 pub returns-in-Err-clause-answer : goal.returns-in-Err-clause-answer
 returns-in-Err-clause-answer g c =

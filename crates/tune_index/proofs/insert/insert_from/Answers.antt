@@ -2,7 +2,7 @@ use Rattle.std.proofs.Common.{◌≡◌, ℕ, ◌+◌, ◌-◌, ◌<◌, List, l
 use Rattle.std.proofs.lemmas.List.{get_or_default, get_or-drop, take-append-drop}
 use Rattle.tune_pages.specs.Faults.{free_pages}
 use Rattle.tune_pages.specs.Work.{stand}
-use Rattle.index_keys.specs.Entries.{Entry, rank, IsRising, RisesFrom}
+use Rattle.index_keys.specs.Entries.{Entry, rank, IsRising, EntriesRiseFrom}
 use Rattle.index_keys.proofs.RisingEntries.{rises_front}
 use Rattle.tune_index.specs.Indexes.{IsIndex, entries_of}
 use Rattle.tune_index.specs.Inside.LeafLists.{leaves_of}
@@ -33,10 +33,10 @@ returns-in-Ok-clause-entries g c = λ honest.
     let b = c.leaf_for-place.ensures.belongs heads in
     let first : slice_entry rest 0 ≡ slice_entry c.args.run.now c.args.at = get_or-drop c.args.at c.args.run.now 0 (0, 0)
     ∙ ap (λ (k : ℕ). slice_entry c.args.run.now k) (omega arith) in
-    let r0 : RisesFrom (rank e) rest =
+    let r0 : EntriesRiseFrom (rank e) rest =
     rises_from_first (rank e) rest (λ _. let k : rank (slice_entry rest 0) ≡ rank e = ap rank (first ∙ sym at_is) in omega (arith, k)) up in
-    let r : RisesFrom (rank e) run =
-    rises_front (rank e) run (drop count rest) (subst (λ (x : List Entry). RisesFrom (rank e) x) (sym (take-append-drop count rest)) r0) in
+    let r : EntriesRiseFrom (rank e) run =
+    rises_front (rank e) run (drop count rest) (subst (λ (x : List Entry). EntriesRiseFrom (rank e) x) (sym (take-append-drop count rest)) r0) in
     let n : length was.heads ≡ length was.pages = ap length ix.heads ∙ length-heads_of g.row.W s0 was.pages in
     let to : place + 1 < length was.pages → AllBelow (rank (slice_entry was.heads (place + 1))) run = λ m.
     let m2 : place + 1 < length was.heads = omega (arith, m, n) in
@@ -65,10 +65,10 @@ returns-in-Err-clause-answer g c =
     let b = c.leaf_for-place.ensures.belongs heads in
     let first : slice_entry rest 0 ≡ slice_entry c.args.run.now c.args.at = get_or-drop c.args.at c.args.run.now 0 (0, 0)
     ∙ ap (λ (k : ℕ). slice_entry c.args.run.now k) (omega arith) in
-    let r0 : RisesFrom (rank e) rest =
+    let r0 : EntriesRiseFrom (rank e) rest =
     rises_from_first (rank e) rest (λ _. let k : rank (slice_entry rest 0) ≡ rank e = ap rank (first ∙ sym at_is) in omega (arith, k)) up in
-    let r : RisesFrom (rank e) run =
-    rises_front (rank e) run (drop count rest) (subst (λ (x : List Entry). RisesFrom (rank e) x) (sym (take-append-drop count rest)) r0) in
+    let r : EntriesRiseFrom (rank e) run =
+    rises_front (rank e) run (drop count rest) (subst (λ (x : List Entry). EntriesRiseFrom (rank e) x) (sym (take-append-drop count rest)) r0) in
     let n : length was.heads ≡ length was.pages = ap length ix.heads ∙ length-heads_of g.row.W s0 was.pages in
     let to : place + 1 < length was.pages → AllBelow (rank (slice_entry was.heads (place + 1))) run = λ m.
     let m2 : place + 1 < length was.heads = omega (arith, m, n) in

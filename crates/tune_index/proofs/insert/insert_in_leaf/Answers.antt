@@ -2,7 +2,7 @@ use Rattle.std.proofs.Common.{◌+◌, ◌++◌, List, take, drop, arith, ap, �
 use Rattle.std.specs.Prelude.{slice_set}
 use Rattle.tune_pages.specs.Work.{stand}
 use Rattle.index_keys.specs.Entries.{Entry}
-use Rattle.tune_index.specs.Inside.LeafLists.{joined}
+use Rattle.tune_index.specs.Inside.LeafLists.{joined_leaves}
 use Rattle.tune_index.specs.Leaves.{leaf_in}
 use Rattle.tune_index.proofs.LeafLists.{joined_set, length-leaves}
 use Rattle.tune_index.proofs.insert.insert_in_leaf.Goals as goal
@@ -15,5 +15,5 @@ returns-in-Ok-clause-leaves g c = λ has up leaves h.
       slice_set leaves c.args.place leaf,
       c.in-Ok.ensures.leaves has leaves h,
       joined_set leaves c.args.place leaf (omega (arith, n, c.requires.place))
-          ∙ ap (λ (x : List Entry). joined (take c.args.place leaves) ++ (x ++ joined (drop (c.args.place + 1) leaves))) made,
+          ∙ ap (λ (x : List Entry). joined_leaves (take c.args.place leaves) ++ (x ++ joined_leaves (drop (c.args.place + 1) leaves))) made,
     )

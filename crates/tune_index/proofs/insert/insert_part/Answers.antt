@@ -5,7 +5,7 @@ use Rattle.tune_pages.specs.Stand.{Stand}
 use Rattle.tune_pages.specs.Work.{stand}
 use Rattle.index_keys.specs.Entries.{Entry, IsRising, inserted_all}
 use Rattle.tune_index.specs.Indexes.{HasPages}
-use Rattle.tune_index.specs.Inside.LeafLists.{HasLeaves, joined}
+use Rattle.tune_index.specs.Inside.LeafLists.{HasLeaves, joined_leaves}
 use Rattle.tune_index.specs.Leaves.{IsLeaf}
 use Rattle.tune_index.proofs.Answering.{change_edit}
 use Rattle.tune_index.proofs.EachPage.{each_of}
@@ -42,7 +42,8 @@ returns-in-Ok-insert_in_leaf-clause-leaves g c = λ honest leaves h up.
     let d = c.in-Ok-insert_in_leaf.ensures.leaves has (subst (λ (x : List Entry). IsRising x) (sym read) up) leaves h1 in (
       d.0,
       d.1,
-      d.2 ∙ ap (λ (x : List Entry). joined (take c.args.place leaves) ++ (inserted_all c.args.part.now x ++ joined (drop (c.args.place + 1) leaves))) read,
+      d.2 ∙ ap (λ (x : List Entry). joined_leaves (take c.args.place leaves)
+          ++ (inserted_all c.args.part.now x ++ joined_leaves (drop (c.args.place + 1) leaves))) read,
     )
 
 pub returns-in-Err-insert_in_leaf-clause-answer : goal.returns-in-Err-insert_in_leaf-clause-answer

@@ -6,7 +6,7 @@ use Rattle.tune_pages.specs.Stand.{Stand}
 use Rattle.tune_pages.specs.Work.{stand}
 use Rattle.index_keys.specs.Entries.{Entry, IsRising, removed}
 use Rattle.tune_index.specs.Indexes.{HasPages}
-use Rattle.tune_index.specs.Inside.LeafLists.{HasLeaves, joined}
+use Rattle.tune_index.specs.Inside.LeafLists.{HasLeaves, joined_leaves}
 use Rattle.tune_index.specs.Leaves.{leaf_in, IsLeaf}
 use Rattle.tune_index.proofs.EachPage.{each_of}
 use Rattle.tune_index.proofs.LeafLists.{joined_set, length-leaves}
@@ -47,7 +47,7 @@ returns-in-Ok-set_image-clause-leaves g c = λ honest leaves h up.
       slice_set leaves c.args.place leaf,
       c.in-Ok-set_image.ensures.leaves has leaves h1,
       joined_set leaves c.args.place leaf (omega (arith, n, c.requires.place))
-          ∙ ap (λ (x : List Entry). joined (take c.args.place leaves) ++ (x ++ joined (drop (c.args.place + 1) leaves))) made,
+          ∙ ap (λ (x : List Entry). joined_leaves (take c.args.place leaves) ++ (x ++ joined_leaves (drop (c.args.place + 1) leaves))) made,
     )
 
 pub returns-in-Ok-drop_leaf-clause-leaves : goal.returns-in-Ok-drop_leaf-clause-leaves

@@ -4,7 +4,7 @@ use Rattle.tune_disk.proofs.Moments.{spares_none, spares_then, spares_write}
 use Rattle.tune_journal.specs.ChangeList.{change_at}
 use Rattle.tune_journal.specs.Image.{pages_of, page_offset}
 use Rattle.tune_journal.specs.Inside.Phases.{IsInNoPage}
-use Rattle.tune_journal.specs.Pages.{changed}
+use Rattle.tune_journal.specs.Pages.{changed_pages}
 use Rattle.tune_journal.proofs.Loops.{image_more, changed-push, outside_image, take_entry, entry_below}
 use Rattle.tune_journal.proofs.CallRuns.{writes_ok}
 use Rattle.tune_journal.proofs.commit.write_images.Goals as goal
@@ -61,6 +61,6 @@ loop-place-preserved g c =
           image_more n page image _ _ c.write_change.ensures.size (entry_below log n k page all lt refl) long' written
           ∙ ap (λ (l : List (List ℕ)). set l page image) before
           ∙ sym (changed-push (pages_of n (g.D.Disk.state c.args.disk.now).seen) (take k log) (page, image))
-          ∙ ap (changed (pages_of n (g.D.Disk.state c.args.disk.now).seen)) (sym (take_entry log k page image lt refl refl)));
+          ∙ ap (changed_pages (pages_of n (g.D.Disk.state c.args.disk.now).seen)) (sym (take_entry log k page image lt refl refl)));
       failures = c.in_ok-write_change.ensures.calls.counted ∙ c.loop-place.invariant.failures;
     }

@@ -4,7 +4,7 @@ use Rattle.std.proofs.lemmas.Result.{on_ok_weaker, err_from_is_err_and}
 use Rattle.tune_disk.proofs.Moments.{spares_fewer}
 use Rattle.tune_disk.proofs.Writes.{written_long}
 use Rattle.tune_journal.specs.Image.{window, entry_offset}
-use Rattle.tune_journal.specs.Inside.Phases.{IsNoLog, IsOutside, HoldsEntries}
+use Rattle.tune_journal.specs.Inside.Phases.{IsNoLog, IsOutside, HoldsLogEntries}
 use Rattle.tune_journal.specs.FileOffsets.{descriptor_offset}
 use Rattle.tune_journal.proofs.CallRuns.{writes_fewer, writes_after}
 use Rattle.tune_journal.proofs.Loops.{entries_kept, below_log, off_descriptor, rising_few}
@@ -42,8 +42,9 @@ pub returns-clause-entries : goal.returns-clause-entries
 returns-clause-entries g c =
     let size : length c.descriptor_of.result ≡ 8 = ap length c.descriptor_of.ensures in
     on_ok_weaker c.write_synced.result (λ w h.
-    (let held : HoldsEntries (entry_offset c.args.new_count 0) c.args.changes.now (length c.args.changes.now) (g.D.Disk.state c.write_entries.new.disk).seen =
-    subst (λ (b : ℕ). HoldsEntries b c.args.changes.now (length c.args.changes.now) (g.D.Disk.state c.write_entries.new.disk).seen)
+    (let held : HoldsLogEntries (entry_offset c.args.new_count 0) c.args.changes.now (length c.args.changes.now)
+    (g.D.Disk.state c.write_entries.new.disk).seen =
+    subst (λ (b : ℕ). HoldsLogEntries b c.args.changes.now (length c.args.changes.now) (g.D.Disk.state c.write_entries.new.disk).seen)
     (omega (arith, c.page_offset.ensures)) (c.in_ok-write_entries.ensures.entries (c.write_synced.ensures.calls.was_honest h)) in
     entries_kept (entry_offset c.args.new_count 0) c.args.changes.now (length c.args.changes.now) descriptor_offset c.descriptor_of.result _ _ (omega arith)
     (omega arith) held (w h))) c.write_synced.ensures.written

@@ -3,7 +3,7 @@ use Rattle.std.proofs.Common.{ℕ, subst, ap, sym, ◌∙◌, refl}
 use Rattle.tune_disk.proofs.Moments.{spares_none}
 use Rattle.tune_disk.specs.Disk.{CountsUp}
 use Rattle.tune_journal.specs.Image.{pages_of}
-use Rattle.tune_journal.specs.Pages.{changed}
+use Rattle.tune_journal.specs.Pages.{changed_pages}
 use Rattle.tune_journal.proofs.Recovery.{entries_none, copy_spares, copy_image, has_entry, next_least}
 use Rattle.tune_journal.proofs.CallRuns.{writes_ok}
 use Rattle.tune_journal.proofs.recover.copy_entries.Goals as goal
@@ -13,7 +13,7 @@ loop-entry-init g c = record {
   honest = λ h. h;
   spares = λ h has. spares_none _ _;
   images =
-      λ h has. ap (changed (pages_of c.args.count (g.D.Disk.state c.args.disk.now).seen))
+      λ h has. ap (changed_pages (pages_of c.args.count (g.D.Disk.state c.args.disk.now).seen))
       (sym (entries_none c.args.count (g.D.Disk.state c.args.disk.now).seen));
   least = λ h has. refl;
   failures = refl;

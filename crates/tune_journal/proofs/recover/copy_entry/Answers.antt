@@ -2,7 +2,7 @@ use Rattle.std.proofs.Common.{◌≡◌, ◌+◌, Result, Ok, Err, OnOk, inl, in
 use Rattle.std.proofs.lemmas.List.{take_all, length-drop}
 use Rattle.tune_disk.specs.Disk.{DiskState, Writes, Shows}
 use Rattle.tune_journal.specs.Image.{number, window, entry_offset, page_offset}
-use Rattle.tune_journal.specs.FileOffsets.{block_bytes, entry_bytes}
+use Rattle.tune_journal.specs.FileOffsets.{block_bytes, log_entry_bytes}
 use Rattle.tune_journal.proofs.Agreeing.{number_of_entry, image_of_entry}
 use Rattle.tune_journal.proofs.recover.copy_entry.Goals as goal
 
@@ -14,7 +14,7 @@ pub returns-then-page-least-clause-calls : goal.returns-then-page-least-clause-c
 returns-then-page-least-clause-calls g c = record {
   was_honest = c.in_ok-read.ensures.looks.calls.was_honest;
   ok = tt;
-  counted = λ h has. (let size : length c.read.new.into ≡ entry_bytes = search rules in
+  counted = λ h has. (let size : length c.read.new.into ≡ log_entry_bytes = search rules in
       let shows : Shows (g.D.Disk.state c.args.disk.now).seen (entry_offset c.args.count c.args.entry) c.read.new.into =
       subst (λ (a : ℕ). Shows (g.D.Disk.state c.args.disk.now).seen a c.read.new.into) c.entry_offset.ensures (c.in_ok-read.ensures.read h) in
       let page : c.read_u32-page.result ≡ number (entry_offset c.args.count c.args.entry) (g.D.Disk.state c.args.disk.now).seen =
@@ -29,7 +29,7 @@ pub returns-clause-copies : goal.returns-clause-copies
 returns-clause-copies g c = λ h has.
     (let before = c.write_at.ensures.calls.was_honest h in
     let old : DiskState = g.D.Disk.state c.args.disk.now in
-    let size : length c.read.new.into ≡ entry_bytes = search rules in
+    let size : length c.read.new.into ≡ log_entry_bytes = search rules in
     let shows : Shows old.seen (entry_offset c.args.count c.args.entry) c.read.new.into =
     subst (λ (a : ℕ). Shows old.seen a c.read.new.into) c.entry_offset.ensures (c.in_ok-read.ensures.read before) in
     let page : c.read_u32-page.result ≡ number (entry_offset c.args.count c.args.entry) old.seen =
@@ -51,7 +51,7 @@ returns-clause-copies g c = λ h has.
 pub returns-clause-least : goal.returns-clause-least
 returns-clause-least g c = on_ok_from c.write_at.result _ (λ h has.
     (let before = c.write_at.ensures.calls.was_honest h in
-    let size : length c.read.new.into ≡ entry_bytes = search rules in
+    let size : length c.read.new.into ≡ log_entry_bytes = search rules in
     let shows : Shows (g.D.Disk.state c.args.disk.now).seen (entry_offset c.args.count c.args.entry) c.read.new.into =
     subst (λ (a : ℕ). Shows (g.D.Disk.state c.args.disk.now).seen a c.read.new.into) c.entry_offset.ensures (c.in_ok-read.ensures.read before) in
     let page : c.read_u32-page.result ≡ number (entry_offset c.args.count c.args.entry) (g.D.Disk.state c.args.disk.now).seen =

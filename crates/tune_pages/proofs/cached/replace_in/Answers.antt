@@ -6,7 +6,7 @@ use Rattle.std.proofs.lemmas.Option.{none-some}
 use Rattle.lru.specs.LruCache.{promoted}
 use Rattle.tune_journal.specs.ChangeList.{image_of}
 use Rattle.tune_journal.specs.declared.changes.PageImage.{PageImage}
-use Rattle.tune_pages.specs.Inside.Cached.{Entry, Replaces}
+use Rattle.tune_pages.specs.Inside.Cached.{CachedImage, Replaces}
 use Rattle.tune_pages.proofs.CacheLemmas.{none_replaced, one_replaced}
 use Rattle.tune_pages.proofs.cached.replace_in.Goals as goal
 
@@ -22,7 +22,7 @@ returns-in-Some-clause-only c =
     let changes = c.args.changes.now in
     let page = c.page_at-page.result in
     let new : Box PageImage = with_value c.in-Some.kept.now c.read.new.image in
-    let after : List Entry = set_value (nat_eq page) (promoted (nat_eq page) entries) new in
+    let after : List CachedImage = set_value (nat_eq page) (promoted (nat_eq page) entries) new in
     let found : lookup (nat_eq page) entries ≡ Some c.in-Some.kept.now = search rules in
     let changed : image_of page changes ≡ Some c.read.new.image.bytes =
     is_found c.read.result _ _ _ c.page_at-page.ensures.found c.read.ensures.found c.read.ensures.missing in

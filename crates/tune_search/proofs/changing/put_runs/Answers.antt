@@ -4,9 +4,9 @@ use Rattle.tune_pages.specs.Work.{stand}
 use Rattle.index_keys.specs.Entries.{Entry, IsRising, inserted_all}
 use Rattle.tune_index.proofs.Answering.{edit_more}
 use Rattle.tune_index.proofs.Balances.{front_least}
-use Rattle.tune_search.specs.IncipitForms.{entries_in, notes_of_entries, notes_of_index, shape_of}
-use Rattle.tune_search.specs.Inside.Four.{HoldsSomeFour, LaysFour, put_in}
-use Rattle.tune_search.specs.SearchPages.{leaves_of}
+use Rattle.tune_search.specs.IncipitForms.{entries_of_incipits, notes_of_entries, notes_of_index, shape_of}
+use Rattle.tune_search.specs.Inside.Four.{HoldsSomeFour, LaysFour, runs_put_in}
+use Rattle.tune_search.specs.SearchPages.{leaf_count}
 use Rattle.tune_search.specs.Searches.{SearchRuns, SearchShape}
 use Rattle.tune_search.proofs.Balances.{AreFullFor, four_balance, incipits_full, rhythms_full, scales_full, titles_full}
 use Rattle.tune_search.proofs.Four.{four_laid, incipits_next, rhythms_next, scales_next}
@@ -136,7 +136,7 @@ returns-clause-lays g c = λ h4.
     let s4 = stand c.put.new.pages c.put.new.work in
     let e4 = c.in-Ok-put.ensures in
     let is4 = c.put.new.self in
-    let f4 = λ (es : List Entry). inserted_all (entries_in c.runs.inside.incipits) es in
+    let f4 = λ (es : List Entry). inserted_all (entries_of_incipits c.runs.inside.incipits) es in
     let h3 = e4.looks.was_honest h4 in
     let h2 = e3.looks.was_honest h3 in
     let h1 = e2.looks.was_honest h2 in
@@ -146,17 +146,17 @@ returns-clause-lays g c = λ h4.
       titles = c.deref.result.now;
       rhythms = c.deref-2.result.now;
       scales = c.deref-3.result.now;
-      incipits = entries_in c.runs.inside.incipits;
+      incipits = entries_of_incipits c.runs.inside.incipits;
     } in
     let runs : made ≡ c.args.runs.now = (λ i. record {
       notes = notes_of_entries c.runs.inside.incipits;
       titles = c.deref.ensures.value i;
       rhythms = c.deref-2.ensures.value i;
       scales = c.deref-3.ensures.value i;
-      incipits = entries_in c.runs.inside.incipits;
+      incipits = entries_of_incipits c.runs.inside.incipits;
     }) ∙ c.runs.view_is in
-    subst (λ (shape : SearchShape). LaysFour s0 s4 shape is (λ entries. put_in c.args.runs.now entries)) c.indexes.view_is
-    (subst (λ (r : SearchRuns). LaysFour s0 s4 was is (λ entries. put_in r entries)) runs
+    subst (λ (shape : SearchShape). LaysFour s0 s4 shape is (λ entries. runs_put_in c.args.runs.now entries)) c.indexes.view_is
+    (subst (λ (r : SearchRuns). LaysFour s0 s4 was is (λ entries. runs_put_in r entries)) runs
     (four_laid was is1 is2 is3 (shape_of is4) f1 f2 f3 f4 s0 s1 s2 s3 s4 (notes_of_index is4) e4.notes (e1.lays h1) (e2.lays h2) (e3.lays h3) (e4.lays h4)))
 
 pub returns-clause-balance : goal.returns-clause-balance
@@ -180,7 +180,7 @@ returns-clause-balance g c =
       scales = c.put_run-3.new.index;
       incipits = shape_of c.put.new.self;
     } in
-    subst (λ (shape : SearchShape). free_pages s0.used + leaves_of shape ≡ free_pages s4.used + leaves_of is) c.indexes.view_is
+    subst (λ (shape : SearchShape). free_pages s0.used + leaf_count shape ≡ free_pages s4.used + leaf_count is) c.indexes.view_is
     (four_balance s0 s1 s2 s3 s4 was is c.in-Ok.ensures.balance c.in-Ok-put_run.ensures.balance c.in-Ok-put_run-2.ensures.balance
     c.in-Ok-put.ensures.balance)
 
@@ -200,8 +200,8 @@ returns-in-Err-clause-answer g c =
     let runs : made ≡ all = (λ i. record { notes = all.notes; titles = r1 i; rhythms = all.rhythms; scales = all.scales; incipits = all.incipits }) in
     edit_more c.in-Err.fault c.put_run.new.pages.closed
     (λ full h1.
-    subst (λ (shape : SearchShape). AreFullFor s0 shape (λ entries. put_in all entries)) c.indexes.view_is
-    (subst (λ (r : SearchRuns). AreFullFor s0 was (λ entries. put_in r entries)) runs
+    subst (λ (shape : SearchShape). AreFullFor s0 shape (λ entries. runs_put_in all entries)) c.indexes.view_is
+    (subst (λ (r : SearchRuns). AreFullFor s0 was (λ entries. runs_put_in r entries)) runs
     (titles_full was was.titles was.titles was.titles
     (inserted_all made.titles) (inserted_all made.rhythms) (inserted_all made.scales) (inserted_all made.incipits)
     (front_least 0 made.rhythms) (front_least 0 made.scales) (front_least 0 made.incipits)
@@ -235,8 +235,8 @@ returns-in-Err-put_run-clause-answer g c =
     edit_more c.in-Err-put_run.fault c.put_run-2.new.pages.closed
     (λ full h2.
     let h1 = c.in-Err-put_run.ensures.looks.was_honest h2 in
-    subst (λ (shape : SearchShape). AreFullFor s0 shape (λ entries. put_in all entries)) c.indexes.view_is
-    (subst (λ (r : SearchRuns). AreFullFor s0 was (λ entries. put_in r entries)) runs
+    subst (λ (shape : SearchShape). AreFullFor s0 shape (λ entries. runs_put_in all entries)) c.indexes.view_is
+    (subst (λ (r : SearchRuns). AreFullFor s0 was (λ entries. runs_put_in r entries)) runs
     (rhythms_full was is1 is1 is1
     (inserted_all made.titles) (inserted_all made.rhythms) (inserted_all made.scales) (inserted_all made.incipits)
     (front_least 0 made.rhythms) (front_least 0 made.scales) (front_least 0 made.incipits)
@@ -275,8 +275,8 @@ returns-in-Err-put_run-2-clause-answer g c =
     (λ full h3.
     let h2 = c.in-Err-put_run-2.ensures.looks.was_honest h3 in
     let h1 = e2.looks.was_honest h2 in
-    subst (λ (shape : SearchShape). AreFullFor s0 shape (λ entries. put_in all entries)) c.indexes.view_is
-    (subst (λ (r : SearchRuns). AreFullFor s0 was (λ entries. put_in r entries)) runs
+    subst (λ (shape : SearchShape). AreFullFor s0 shape (λ entries. runs_put_in all entries)) c.indexes.view_is
+    (subst (λ (r : SearchRuns). AreFullFor s0 was (λ entries. runs_put_in r entries)) runs
     (scales_full was is1 is2 is2
     (inserted_all made.titles) (inserted_all made.rhythms) (inserted_all made.scales) (inserted_all made.incipits)
     (front_least 0 made.rhythms) (front_least 0 made.scales) (front_least 0 made.incipits)
@@ -307,13 +307,13 @@ returns-in-Err-put-clause-answer g c =
     let r1 : c.deref.result.now ≡ all.titles = c.deref.ensures.value ∙ ap (λ (r : SearchRuns). r.titles) c.runs.view_is in
     let r2 : c.deref-2.result.now ≡ all.rhythms = c.deref-2.ensures.value ∙ ap (λ (r : SearchRuns). r.rhythms) c.runs.view_is in
     let r3 : c.deref-3.result.now ≡ all.scales = c.deref-3.ensures.value ∙ ap (λ (r : SearchRuns). r.scales) c.runs.view_is in
-    let r4 : entries_in c.runs.inside.incipits ≡ all.incipits = ap (λ (r : SearchRuns). r.incipits) c.runs.view_is in
+    let r4 : entries_of_incipits c.runs.inside.incipits ≡ all.incipits = ap (λ (r : SearchRuns). r.incipits) c.runs.view_is in
     let made : SearchRuns = record {
       notes = notes_of_entries c.runs.inside.incipits;
       titles = c.deref.result.now;
       rhythms = c.deref-2.result.now;
       scales = c.deref-3.result.now;
-      incipits = entries_in c.runs.inside.incipits;
+      incipits = entries_of_incipits c.runs.inside.incipits;
     } in
     let runs : made ≡ all = (λ i. record { notes = r0 i; titles = r1 i; rhythms = r2 i; scales = r3 i; incipits = r4 i }) in
     edit_more c.in-Err-put.fault c.put.new.pages.closed
@@ -321,8 +321,8 @@ returns-in-Err-put-clause-answer g c =
     let h3 = c.in-Err-put.ensures.looks.was_honest h4 in
     let h2 = e3.looks.was_honest h3 in
     let h1 = e2.looks.was_honest h2 in
-    subst (λ (shape : SearchShape). AreFullFor s0 shape (λ entries. put_in all entries)) c.indexes.view_is
-    (subst (λ (r : SearchRuns). AreFullFor s0 was (λ entries. put_in r entries)) runs
+    subst (λ (shape : SearchShape). AreFullFor s0 shape (λ entries. runs_put_in all entries)) c.indexes.view_is
+    (subst (λ (r : SearchRuns). AreFullFor s0 was (λ entries. runs_put_in r entries)) runs
     (incipits_full was is1 is2 is3
     (inserted_all made.titles) (inserted_all made.rhythms) (inserted_all made.scales) (inserted_all made.incipits)
     (front_least 0 made.rhythms) (front_least 0 made.scales) (front_least 0 made.incipits)

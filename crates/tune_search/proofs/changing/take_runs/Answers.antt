@@ -2,9 +2,9 @@ use Rattle.std.proofs.Common.{◌≡◌, ◌+◌, List, rules, sym, ap, subst, �
 use Rattle.tune_pages.specs.Faults.{free_pages}
 use Rattle.tune_pages.specs.Work.{stand}
 use Rattle.index_keys.specs.Entries.{Entry, removed_all}
-use Rattle.tune_search.specs.IncipitForms.{entries_in, notes_of_entries, notes_of_index, shape_of}
+use Rattle.tune_search.specs.IncipitForms.{entries_of_incipits, notes_of_entries, notes_of_index, shape_of}
 use Rattle.tune_search.specs.Inside.Four.{HoldsSomeFour, LaysFour, taken_out}
-use Rattle.tune_search.specs.SearchPages.{leaves_of}
+use Rattle.tune_search.specs.SearchPages.{leaf_count}
 use Rattle.tune_search.specs.Searches.{SearchRuns, SearchShape}
 use Rattle.tune_search.proofs.Balances.{four_balance}
 use Rattle.tune_search.proofs.Four.{four_laid, incipits_next, rhythms_next, scales_next}
@@ -127,7 +127,7 @@ returns-clause-lays g c = λ h4.
     let s4 = stand c.take.new.pages c.take.new.work in
     let e4 = c.in-Ok-take.ensures in
     let is4 = c.take.new.self in
-    let f4 = λ (es : List Entry). removed_all (entries_in c.runs.inside.incipits) es in
+    let f4 = λ (es : List Entry). removed_all (entries_of_incipits c.runs.inside.incipits) es in
     let h3 = e4.looks.was_honest h4 in
     let h2 = e3.looks.was_honest h3 in
     let h1 = e2.looks.was_honest h2 in
@@ -137,14 +137,14 @@ returns-clause-lays g c = λ h4.
       titles = c.deref.result.now;
       rhythms = c.deref-2.result.now;
       scales = c.deref-3.result.now;
-      incipits = entries_in c.runs.inside.incipits;
+      incipits = entries_of_incipits c.runs.inside.incipits;
     } in
     let runs : made ≡ c.args.runs.now = (λ i. record {
       notes = notes_of_entries c.runs.inside.incipits;
       titles = c.deref.ensures.value i;
       rhythms = c.deref-2.ensures.value i;
       scales = c.deref-3.ensures.value i;
-      incipits = entries_in c.runs.inside.incipits;
+      incipits = entries_of_incipits c.runs.inside.incipits;
     }) ∙ c.runs.view_is in
     subst (λ (shape : SearchShape). LaysFour s0 s4 shape is (λ entries. taken_out c.args.runs.now entries)) c.indexes.view_is
     (subst (λ (r : SearchRuns). LaysFour s0 s4 was is (λ entries. taken_out r entries)) runs
@@ -171,6 +171,6 @@ returns-clause-balance g c =
       scales = c.take_run-3.new.index;
       incipits = shape_of c.take.new.self;
     } in
-    subst (λ (shape : SearchShape). free_pages s0.used + leaves_of shape ≡ free_pages s4.used + leaves_of is) c.indexes.view_is
+    subst (λ (shape : SearchShape). free_pages s0.used + leaf_count shape ≡ free_pages s4.used + leaf_count is) c.indexes.view_is
     (four_balance s0 s1 s2 s3 s4 was is c.in-Ok.ensures.balance c.in-Ok-take_run.ensures.balance c.in-Ok-take_run-2.ensures.balance
     c.in-Ok-take.ensures.balance)

@@ -1,5 +1,5 @@
 use Rattle.std.proofs.Common.{◌≡◌, ◌++◌, drop}
-use Rattle.tune_store.specs.State.{RisesFrom}
+use Rattle.tune_store.specs.State.{NumbersRiseFrom}
 use Rattle.tune_store.specs.Questions.{rows_at}
 use Rattle.tune_store.proofs.questions.set_show.Given as goal
 
@@ -8,5 +8,5 @@ invariant-loop-number g l = record {
   fetched : g.C.Catalog.fetched l.fn.catalog l.catalog;
   rows : g.C.Catalog.honest l.catalog
       → let tunes = (g.C.Catalog.state l.fn.catalog).tunes in
-      RisesFrom 0 tunes → l.rows.items ++ rows_at tunes (drop l.number-index l.number-items) ≡ rows_at tunes l.number-items;
+      NumbersRiseFrom 0 tunes → l.rows.items ++ rows_at tunes (drop l.number-index l.number-items) ≡ rows_at tunes l.number-items;
 }

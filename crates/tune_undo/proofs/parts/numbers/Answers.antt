@@ -3,12 +3,12 @@ use Rattle.std.specs.Prelude.{decimal}
 use Rattle.std.proofs.lemmas.Bool.Decides.{nat_tests}
 use Rattle.std.proofs.lemmas.List.{nil_from_length}
 use Rattle.tune_undo.specs.EntryBytes.{numbers_bytes}
-use Rattle.tune_undo.specs.Inside.EntryLines.{word_of}
+use Rattle.tune_undo.specs.Inside.EntryLines.{word_before_space}
 use Rattle.tune_undo.proofs.PartLaws.{numbers_end, next_takes, numbers_more, are-append, numbers_stop}
 use Rattle.tune_undo.proofs.parts.numbers.Goals as goal
 
 pub loop-rest-init : goal.loop-rest-init
-loop-rest-init c = rw c.new-numbers.ensures.items record { same = refl; narrow = tt; ends = λ numbers e. ap word_of (sym e) ∙ numbers_end numbers }
+loop-rest-init c = rw c.new-numbers.ensures.items record { same = refl; narrow = tt; ends = λ numbers e. ap word_before_space (sym e) ∙ numbers_end numbers }
 
 pub loop-rest-preserved : goal.loop-rest-preserved
 loop-rest-preserved c =

@@ -4,7 +4,7 @@ use Rattle.std.specs.Option.{option_map, option_to_list}
 use Rattle.std.proofs.lemmas.Bool.Decides.{nat_tests}
 use Rattle.std.proofs.lemmas.List.{nil_from_length}
 use Rattle.tune_undo.specs.OldEntries.{step_value}
-use Rattle.tune_undo.specs.OldItems.{IsLog, standing_after}
+use Rattle.tune_undo.specs.OldItems.{IsItemLog, standing_after}
 use Rattle.tune_undo.specs.Inside.Found.{found_value, place_of}
 use Rattle.tune_undo.proofs.StepLaws.{log_from, standing_found}
 use Rattle.tune_undo.proofs.steps.standing_steps.Goals as goal
@@ -34,5 +34,5 @@ loop-rest-smaller c =
 pub returns : goal.returns
 returns c =
     let none : c.loop-rest.rest.now ≡ [] = nil_from_length _ (grind (arith, nat_tests)) in
-    let got = c.loop-rest.invariant [] (subst (λ (rest : List ℕ). IsLog (place_of c.loop-rest.top) rest []) (sym none) refl) in
+    let got = c.loop-rest.invariant [] (subst (λ (rest : List ℕ). IsItemLog (place_of c.loop-rest.top) rest []) (sym none) refl) in
     (got.0, got.1, sym got.2)

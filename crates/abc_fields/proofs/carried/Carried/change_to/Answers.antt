@@ -4,8 +4,8 @@ use Rattle.std.specs.Cmp.{booleans_Decides}
 use Rattle.abc_fields.specs.Tunes.{joined, tune_run}
 use Rattle.abc_fields.specs.Fields.{header_of}
 use Rattle.abc_fields.specs.Inside.LinesLeft.{contents_of}
-use Rattle.abc_fields.specs.Inside.HeaderRows.{taken, in_table}
-use Rattle.abc_fields.specs.Inside.CarriedBytes.{IsKept}
+use Rattle.abc_fields.specs.Inside.HeaderRows.{taken_lines, in_table}
+use Rattle.abc_fields.specs.Inside.CarriedBytes.{IsKeptOfRows}
 use Rattle.abc_fields.proofs.RowLemmas.{taken_by_table}
 use Rattle.abc_fields.proofs.carried.Carried.change_to.Goals as goal
 
@@ -13,7 +13,7 @@ pub returns-then-eq-clause-bytes : goal.returns-then-eq-clause-bytes
 returns-then-eq-clause-bytes c =
     let same : c.args.self.now.last.letters.table ≡ c.of_tune-letters.result.table =
     (slice_eq-Decides booleans_Decides c.args.self.now.last.letters.table c.of_tune-letters.result.table c.eq.result c.eq.ensures).0 c.if-eq.true in
-    c.requires.last ∙ ap (λ table. joined (taken (in_table table) c.args.header.now)) same
+    c.requires.last ∙ ap (λ table. joined (taken_lines (in_table table) c.args.header.now)) same
     ∙ ap joined (taken_by_table c.of_tune-letters.result.table (header_of (tune_run (contents_of c.args.lines))) c.args.header.now c.of_tune-letters.ensures
     c.is_empty.ensures.bytes)
 
@@ -21,8 +21,8 @@ pub returns-then-eq-2-clause-bytes : goal.returns-then-eq-2-clause-bytes
 returns-then-eq-2-clause-bytes c =
     let same : c.swap.new.x.letters.table ≡ c.of_tune-letters.result.table =
     (slice_eq-Decides booleans_Decides c.swap.new.x.letters.table c.of_tune-letters.result.table c.eq-2.result c.eq-2.ensures).0 c.if-eq-2.true in
-    let kept : IsKept c.args.header.now c.swap.new.x = subst (IsKept c.args.header.now) (sym c.swap.ensures.x_after) c.requires.before in
-    kept ∙ ap (λ table. joined (taken (in_table table) c.args.header.now)) same
+    let kept : IsKeptOfRows c.args.header.now c.swap.new.x = subst (IsKeptOfRows c.args.header.now) (sym c.swap.ensures.x_after) c.requires.before in
+    kept ∙ ap (λ table. joined (taken_lines (in_table table) c.args.header.now)) same
     ∙ ap joined (taken_by_table c.of_tune-letters.result.table (header_of (tune_run (contents_of c.args.lines))) c.args.header.now c.of_tune-letters.ensures
     c.is_empty.ensures.bytes)
 

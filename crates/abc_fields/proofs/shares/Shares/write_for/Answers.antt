@@ -1,7 +1,7 @@
 use Rattle.std.proofs.Common.{◌≡◌, ◌∙◌, ◌<◌, ◌≤◌, ◌++◌, None, Some, refl, ap, sym, subst, arith, length, get_or, take}
 use Rattle.std.proofs.lemmas.List.{append-nil, append_assoc}
 use Rattle.abc_fields.specs.Tunes.{joined}
-use Rattle.abc_fields.specs.Inside.HeaderRows.{in_table, taken}
+use Rattle.abc_fields.specs.Inside.HeaderRows.{in_table, taken_lines}
 use Rattle.abc_fields.specs.Inside.Shares.{RuleLines, IsFirstAt, lines_from, run_length}
 use Rattle.abc_fields.proofs.ShareLemmas.{all_left, none_left, one_left, turn_taken, next_first, next_later, run_fits, first_of}
 use Rattle.abc_fields.proofs.shares.Shares.write_for.Goals as goal
@@ -14,7 +14,7 @@ returns-in_default c =
     let count : c.len-2.result ≡ length rests = omega (arith, c.len-2.ensures, c.deref.ensures.len, ap length c.deref.ensures.value) in
     let first = first_of rests c.deref.result.now (length rests) c.len-2.result None c.deref.ensures.value count c.in_default.ensures in
     sym (append-nil c.args.out.now.items)
-    ∙ ap (λ t. c.args.out.now.items ++ t) (sym (none_left owns rests (joined (taken owns c.args.self.now)) (length rests) left (omega arith) first))
+    ∙ ap (λ t. c.args.out.now.items ++ t) (sym (none_left owns rests (joined (taken_lines owns c.args.self.now)) (length rests) left (omega arith) first))
 
 pub loop-next-init : goal.loop-next-init
 loop-next-init c =
@@ -22,7 +22,7 @@ loop-next-init c =
     let rests = c.in_ok-rests.rests.items in
     let count : c.len-2.result ≡ length rests = omega (arith, c.len-2.ensures, c.deref.ensures.len, ap length c.deref.ensures.value) in
     record {
-      left = (joined (taken owns c.args.self.now), all_left owns c.args.self.now rests c.in_ok-rests.ensures, refl);
+      left = (joined (taken_lines owns c.args.self.now), all_left owns c.args.self.now rests c.in_ok-rests.ensures, refl);
       first = first_of rests c.deref.result.now (length rests) c.len-2.result (Some c.in-Some.turn) c.deref.ensures.value count c.in-Some.ensures;
     }
 

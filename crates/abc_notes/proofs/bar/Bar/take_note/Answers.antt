@@ -2,14 +2,14 @@ use Rattle.std.proofs.Common.{rules, sym, ◌∙◌, arith}
 use Rattle.std.proofs.lemmas.Bool.{true≢false}
 use Rattle.abc_notes.specs.Inside.EventView.{written_note}
 use Rattle.abc_notes.specs.Pitches.{in_force}
-use Rattle.abc_notes.specs.Inside.BarTables.{IsNear}
+use Rattle.abc_notes.specs.Inside.BarTables.{IsNearOctave}
 use Rattle.abc_notes.proofs.PastLemmas.{holds_set, borne_none, borne_far, borne_near}
 use Rattle.abc_notes.proofs.bar.Bar.take_note.Goals as goal
 
 pub returns-then-is_near-clause-after : goal.returns-then-is_near-clause-after
 unfolding in_force
 returns-then-is_near-clause-after c =
-    let near : IsNear c.args.written.octave = search rules in
+    let near : IsNearOctave c.args.written.octave = search rules in
     λ past kept. record {
       count = omega (arith, kept.count);
       current = kept.current;
@@ -23,7 +23,7 @@ returns-then-is_near-clause-after c =
 pub returns-else-is_near-clause-after : goal.returns-else-is_near-clause-after
 unfolding in_force
 returns-else-is_near-clause-after c =
-    let far : IsNear c.args.written.octave → ⊥ = search rules in
+    let far : IsNearOctave c.args.written.octave → ⊥ = search rules in
     λ past kept. record {
       count = omega (arith, kept.count);
       current = kept.current;

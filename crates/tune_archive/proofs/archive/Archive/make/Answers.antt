@@ -8,7 +8,7 @@ use Rattle.tune_pages.specs.Kept.{Kept, HonestAt, state_at, failures_at}
 use Rattle.tune_pages.specs.OpenedPages.{only_root}
 use Rattle.tune_store.specs.State.{empty_of}
 use Rattle.tune_store.specs.declared.layout.Layout.TheVariants.{Two}
-use Rattle.tune_archive.specs.OpenedArchive.{disk_of, StandsForNoneOrEmpty}
+use Rattle.tune_archive.specs.OpenedArchive.{disk_left_of, StandsForNoneOrEmpty}
 use Rattle.tune_archive.specs.Shelf.{Shelf, state_on}
 use Rattle.tune_archive.proofs.OpenedArchives.{making_keeps, made_shelf, made_state, made_sound, root_of_none}
 use Rattle.tune_archive.proofs.archive.Archive.make.Goals as goal
@@ -18,8 +18,8 @@ returns-in_err-pages-clause-moments g c =
     let p = err_from_is_err_and c.from_residual.result c.from_residual.ensures.1 in
     let call = c.in_err-pages.ensures in
     let old = g.D.Disk.state c.args.disk in
-    subst (λ (r : Result (Shelf g.row.D.Denot) (Refused g.row.D.Denot)). HonestAt g.D.Disk.honest (disk_of r) → LeavesOnly old.now IsEmptyFile
-    → SinceThen old (state_at g.D.Disk.state (disk_of r)) StandsForNoneOrEmpty)
+    subst (λ (r : Result (Shelf g.row.D.Denot) (Refused g.row.D.Denot)). HonestAt g.D.Disk.honest (disk_left_of r) → LeavesOnly old.now IsEmptyFile
+    → SinceThen old (state_at g.D.Disk.state (disk_left_of r)) StandsForNoneOrEmpty)
     (sym (p.1 ∙ ap Err p.2))
     (λ h empty. making_keeps c.write_root-root.result.bytes old (g.D.Disk.state c.in_err-pages.field-0.0.disk)
     (root_of_none _ _ c.no_firsts.ensures c.write_root-root.ensures.root) (call.moments h empty))

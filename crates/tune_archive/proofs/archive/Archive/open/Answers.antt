@@ -6,7 +6,7 @@ use Rattle.tune_journal.specs.Image.{gate_of}
 use Rattle.tune_journal.specs.Refusal.{IsUnwritten}
 use Rattle.tune_journal.specs.declared.open_fault.Refused.{Refused}
 use Rattle.tune_pages.specs.Kept.{HonestAt, state_at}
-use Rattle.tune_archive.specs.OpenedArchive.{disk_of, KeepsStates, IsUnopenedArchiveFor}
+use Rattle.tune_archive.specs.OpenedArchive.{disk_left_of, KeepsStates, IsUnopenedArchiveFor}
 use Rattle.tune_archive.specs.Shelf.{Shelf}
 use Rattle.tune_archive.proofs.OpenedArchives.{opening_keeps_states, pages_refused, archive_refused}
 use Rattle.tune_archive.proofs.archive.Archive.open.Goals as goal
@@ -17,7 +17,7 @@ returns-in_err-opening-clause-moments g c =
     let call = c.in_err-opening.ensures in
     let old = g.D.Disk.state c.args.disk in
     subst (λ (r : Result (Shelf g.row.D.Denot) (Refused g.row.D.Denot)).
-    HonestAt g.D.Disk.honest (disk_of r) → KeepsStates old (state_at g.D.Disk.state (disk_of r)))
+    HonestAt g.D.Disk.honest (disk_left_of r) → KeepsStates old (state_at g.D.Disk.state (disk_left_of r)))
     (sym (p.1 ∙ ap Err p.2))
     (λ h. opening_keeps_states old (g.D.Disk.state c.in_err-opening.field-0.0.disk) (g.met.D.Disk.seen_may_stay c.args.disk (call.honest h)) (call.leaves h))
 
@@ -26,7 +26,7 @@ returns-in_err-opening-clause-untouched g c =
     let p = err_from_is_err_and c.from_residual.result c.from_residual.ensures.1 in
     let old = g.D.Disk.state c.args.disk in
     subst (λ (r : Result (Shelf g.row.D.Denot) (Refused g.row.D.Denot)).
-    HonestAt g.D.Disk.honest (disk_of r) → gate_of old.seen ≢ gate_open → IsUnwritten old (state_at g.D.Disk.state (disk_of r)))
+    HonestAt g.D.Disk.honest (disk_left_of r) → gate_of old.seen ≢ gate_open → IsUnwritten old (state_at g.D.Disk.state (disk_left_of r)))
     (sym (p.1 ∙ ap Err p.2)) (λ h shut. c.in_err-opening.ensures.untouched h shut)
 
 pub returns-in_err-opening-clause-refused : goal.returns-in_err-opening-clause-refused

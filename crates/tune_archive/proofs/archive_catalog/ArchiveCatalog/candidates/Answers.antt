@@ -3,7 +3,7 @@ use Rattle.tune_store.specs.Candidates.{HoldsFound, PlacesRise}
 use Rattle.tune_store.specs.Limits.{notes_of}
 use Rattle.tune_contents.specs.Holds.{labels_in}
 use Rattle.tune_archive.specs.Shelf.{Shelf, state_of, state_on}
-use Rattle.tune_archive.specs.Inside.Fetching.{Fetches, Tells}
+use Rattle.tune_archive.specs.Inside.Fetching.{Fetches, KnowsState}
 use Rattle.tune_archive.specs.Inside.Holding.{stand_of}
 use Rattle.tune_archive.proofs.FetchLemmas.{shelf_kept}
 use Rattle.tune_archive.proofs.FoundPlaces.{found_in_archive, some_texts}
@@ -45,7 +45,7 @@ returns-in_ok-places_of_numbers-in-Ok g c =
     record { pages = c.values_for.new.pages; contents = contents; fetched = c.self.inside.fetched; closed = c.self.inside.closed } in
     subst
     (λ (s : Shelf g.row.D.Denot). Fetches honest g.D.Disk.failures state s new × PlacesRise 0 (length (labels_in s.contents.rows.items)) places
-    × (Tells honest state new → HoldsFound (notes_of s.contents.layout) c.args.sought.now (state_of state s).tunes places))
+    × (KnowsState honest state new → HoldsFound (notes_of s.contents.layout) c.args.sought.now (state_of state s).tunes places))
     c.self.view_is (
       record { was_honest = looks.was_honest; same_state = looks.same_state; counted = looks.counted; contents = refl; closed = refl },
       given.rise,

@@ -1,7 +1,7 @@
 use Rattle.std.proofs.Common.{◌≡◌, ◌-◌, ◌++◌, ℕ, List, length, replicate, sym, ap, ◌∙◌, subst, rules}
 use Rattle.tune_disk.specs.Inside.Fills.{Fills}
 use Rattle.tune_disk.specs.Memory.{memory_state, IsFilled}
-use Rattle.tune_disk.specs.Records.{state_of}
+use Rattle.tune_disk.specs.Records.{state_of_records}
 use Rattle.tune_disk.specs.declared.memory.Record.{Record}
 use Rattle.tune_disk.proofs.Filled.{filled_is}
 use Rattle.tune_disk.proofs.Writes.{whole}
@@ -22,7 +22,7 @@ returns c =
     let long : longer ≡ behind s.now.stable (length s.seen) =
     grown ∙ ap (λ (l : List ℕ). behind l c.len.result) stable ∙ ap (behind s.now.stable) (size ∙ ap length content) in
     let from : c.deref_mut.result.now ≡ longer = search rules in
-    let written : List Record → Type 0 = λ l. Fills byte (state_of disk.first.items l).now.written c.deref_mut.result.now new in
+    let written : List Record → Type 0 = λ l. Fills byte (state_of_records disk.first.items l).now.written c.deref_mut.result.now new in
     let filled = subst written c.deref-4.ensures.value (c.fill_written.ensures disk.first.items) in
     let fills : Fills byte s.now.written longer new = subst (λ (l : List ℕ). Fills byte s.now.written l new) from filled in
     let same : length new ≡ length longer = fills.long in

@@ -9,7 +9,7 @@ use Rattle.index_keys.specs.Entries.{Entry, IsRising}
 use Rattle.tune_index.specs.Indexes.{entries_of}
 use Rattle.tune_index.specs.Inside.Loading.{LoadsLeaf}
 use Rattle.tune_index.specs.Leaves.{leaf_in, value_in, IsLeaf}
-use Rattle.tune_index.specs.ListedLeaves.{IsStored, index_with, listed_bytes, numbers_in, shown}
+use Rattle.tune_index.specs.ListedLeaves.{IsStored, index_with, listed_bytes, numbers_in, stand_of_pages}
 use Rattle.tune_index.proofs.Loading.{LoadedSoFar, loaded_more, stored_bytes, stored_next, stored_within, length-numbers}
 use Rattle.tune_index.proofs.index.Index.load.Goals as goal
 
@@ -125,7 +125,7 @@ returns-clause-loads g c = λ h.
     let numbers : listed_bytes (numbers_in place bytes) ≡ bytes = subst (λ (k : ℕ). listed_bytes (numbers_in k bytes) ≡ bytes) (sym all)
     (subst (λ (x : List ℕ). listed_bytes (numbers_in c.in-Some.count x) ≡ x) here c.in-Some.ensures.listed) in
     let listed : listed_bytes index.pages ≡ bytes = ap listed_bytes so.leaves ∙ numbers in
-    let few : length (entries_of W (shown c.args.opening.now.pages) index.pages) ≤ c.args.most =
+    let few : length (entries_of W (stand_of_pages c.args.opening.now.pages) index.pages) ≤ c.args.most =
     subst (λ (x : List Entry). length x ≤ c.args.most) so.entries inv.few in
     record {
       trail = chain.0;

@@ -4,7 +4,7 @@ use Rattle.tune_journal.specs.declared.changes.Kept.TheVariants.{Whole}
 use Rattle.tune_journal.specs.declared.changes.PageImage.{PageImage}
 use Rattle.tune_journal.specs.ChangeList.{with_change}
 use Rattle.tune_journal.specs.Inside.ChangeOrder.{FoundAt}
-use Rattle.tune_journal.specs.Inside.ListedChanges.{listed, HoldsChanges, start_in}
+use Rattle.tune_journal.specs.Inside.ListedChanges.{listed_changes, HoldsChanges, start_in}
 use Rattle.tune_journal.specs.FileOffsets.{block_bytes}
 use Rattle.tune_journal.proofs.KeptLists.{set_listed, set_kept, whole_listed, whole_kept, room_left, kept_in}
 use Rattle.tune_journal.proofs.changes.Changes.replace.Goals as goal
@@ -14,7 +14,7 @@ invariant_of-self c =
     let starts = c.self.inside.starts.items in
     let whole = c.self.inside.whole.items in
     let items = c.self.inside.changed.items in
-    let found : FoundAt c.args.page c.args.at (listed starts whole items) = subst (FoundAt c.args.page c.args.at) (sym c.self.view_is) c.requires in
+    let found : FoundAt c.args.page c.args.at (listed_changes starts whole items) = subst (FoundAt c.args.page c.args.at) (sym c.self.view_is) c.requires in
     let size : length c.args.image.now.bytes ≡ block_bytes = search rules in
     set_kept starts whole items _ c.self.invariant c.args.at c.index.result.now c.index.ensures c.args.page found c.args.image.now size c.in-Whole.place
     c.in-Whole.is
@@ -24,7 +24,7 @@ returns-in-Whole c =
     let starts = c.self.inside.starts.items in
     let whole = c.self.inside.whole.items in
     let items = c.self.inside.changed.items in
-    let found : FoundAt c.args.page c.args.at (listed starts whole items) = subst (FoundAt c.args.page c.args.at) (sym c.self.view_is) c.requires in
+    let found : FoundAt c.args.page c.args.at (listed_changes starts whole items) = subst (FoundAt c.args.page c.args.at) (sym c.self.view_is) c.requires in
     let size : length c.args.image.now.bytes ≡ block_bytes = search rules in
     set_listed starts whole items _ c.self.invariant c.args.at c.index.result.now c.index.ensures c.args.page found c.args.image.now size c.in-Whole.place
     c.in-Whole.is
@@ -35,7 +35,7 @@ invariant_of-self-in-Ok c =
     let starts = c.self.inside.starts.items in
     let whole = c.self.inside.whole.items in
     let items = c.self.inside.changed.items in
-    let found : FoundAt c.args.page c.args.at (listed starts whole items) = subst (FoundAt c.args.page c.args.at) (sym c.self.view_is) c.requires in
+    let found : FoundAt c.args.page c.args.at (listed_changes starts whole items) = subst (FoundAt c.args.page c.args.at) (sym c.self.view_is) c.requires in
     let size : length c.args.image.now.bytes ≡ block_bytes = search rules in
     let last : c.self.inside.whole.len ≡ length whole = search rules in
     let new : ChangedPage = record { page = c.args.page; kept = Whole c.len-place.result } in
@@ -51,7 +51,7 @@ unreachable-requires c =
     let starts = c.self.inside.starts.items in
     let whole = c.self.inside.whole.items in
     let items = c.self.inside.changed.items in
-    let found : FoundAt c.args.page c.args.at (listed starts whole items) = subst (FoundAt c.args.page c.args.at) (sym c.self.view_is) c.requires in
+    let found : FoundAt c.args.page c.args.at (listed_changes starts whole items) = subst (FoundAt c.args.page c.args.at) (sym c.self.view_is) c.requires in
     let size : length c.args.image.now.bytes ≡ block_bytes = search rules in
     let last : c.self.inside.whole.len ≡ length whole = search rules in
     let new : ChangedPage = record { page = c.args.page; kept = Whole (length whole) } in
@@ -64,12 +64,13 @@ returns c =
     let starts = c.self.inside.starts.items in
     let whole = c.self.inside.whole.items in
     let items = c.self.inside.changed.items in
-    let found : FoundAt c.args.page c.args.at (listed starts whole items) = subst (FoundAt c.args.page c.args.at) (sym c.self.view_is) c.requires in
+    let found : FoundAt c.args.page c.args.at (listed_changes starts whole items) = subst (FoundAt c.args.page c.args.at) (sym c.self.view_is) c.requires in
     let size : length c.args.image.now.bytes ≡ block_bytes = search rules in
     let last : c.self.inside.whole.len ≡ length whole = search rules in
     let new : ChangedPage = record { page = c.args.page; kept = Whole c.len-place.result } in
-    let is : listed starts c.extend_from_slice.new.self.items (set items c.args.at new) ≡ with_change c.args.page c.args.image.now.bytes c.args.self.now =
-    ap (λ (w : List PageImage). listed starts w (set items c.args.at new))
+    let is : listed_changes starts c.extend_from_slice.new.self.items (set items c.args.at new)
+    ≡ with_change c.args.page c.args.image.now.bytes c.args.self.now =
+    ap (λ (w : List PageImage). listed_changes starts w (set items c.args.at new))
     (c.in-Ok.ensures.items ∙ ap (λ (w : List PageImage). whole ++ w) c.from_ref.ensures.value)
     ∙ whole_listed starts whole items _ c.self.invariant c.args.at c.index.result.now c.index.ensures c.args.page found c.args.image.now size
     (ap start_in c.in_default.is) new refl (ap Whole (c.len-place.ensures ∙ last))

@@ -1,7 +1,7 @@
 use Rattle.std.proofs.Common.{◌≡◌, ◌≤◌, ◌∙◌, ap, sym, subst, length, arith, ℕ, List}
 use Rattle.tune_disk.specs.Disk.{DiskState}
 use Rattle.tune_journal.specs.Image.{pages_of, log_of}
-use Rattle.tune_journal.specs.Pages.{changed, NamesAll}
+use Rattle.tune_journal.specs.Pages.{changed_pages, NamesAll}
 use Rattle.tune_journal.proofs.AfterParts.{logged_after, logged_log, logged_pages, after_same}
 use Rattle.tune_journal.proofs.Agreeing.{length-pages_of}
 use Rattle.tune_journal.proofs.Changed.{length-changed}
@@ -64,7 +64,7 @@ returns-in-Ok-clause-next g c =
     let names : NamesAll n m c.args.changes.now = subst (λ (k : ℕ). NamesAll k m c.args.changes.now) size c.requires.names in
     rw (← c.self.view_is) (λ h.
     (let new : DiskState = g.D.Disk.state c.write_log.new.disk in
-    ap (changed (pages_of m new.seen)) (returns-in-Ok-clause-changes g c h)
+    ap (changed_pages (pages_of m new.seen)) (returns-in-Ok-clause-changes g c h)
     ∙ after_same n m old.seen new.seen c.args.changes.now grows names
     (logged_pages n m old new (c.self.invariant.rest (c.in-Ok.ensures.calls.was_honest h)) grows (c.in-Ok.ensures.writes h))))
 

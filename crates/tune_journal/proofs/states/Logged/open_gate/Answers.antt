@@ -1,7 +1,7 @@
 use Rattle.std.proofs.Common.{◌≡◌, ◌∙◌, sym, ℕ, List, length}
 use Rattle.tune_journal.specs.Image.{log_of, pages_of}
 use Rattle.tune_journal.specs.FileOffsets.{gate_open}
-use Rattle.tune_journal.specs.Pages.{changed}
+use Rattle.tune_journal.specs.Pages.{changed_pages}
 use Rattle.tune_journal.proofs.AfterParts.{opened_after, opened_log, opened_pages}
 use Rattle.tune_journal.proofs.Agreeing.{gate_written, length-pages_of}
 use Rattle.tune_journal.proofs.Changed.{length-changed}
@@ -9,7 +9,7 @@ use Rattle.tune_journal.proofs.PartsSince.{opening_since}
 use Rattle.tune_journal.proofs.Rests.{opened_leaves}
 use Rattle.tune_journal.proofs.states.Logged.open_gate.Goals as goal
 
-length_next : (m : ℕ) (file : List ℕ) → length (changed (pages_of m file) (log_of file)) ≡ m
+length_next : (m : ℕ) (file : List ℕ) → length (changed_pages (pages_of m file) (log_of file)) ≡ m
 length_next m file = length-changed (pages_of m file) (log_of file) ∙ length-pages_of m file
 
 pub invariant_of-result : goal.invariant_of-result
@@ -35,7 +35,7 @@ returns-in-Ok-clause-pages g c = rw (← c.self.view_is) (λ h.
     (let logged = c.self.invariant.logged (c.in-Ok.ensures.calls.was_honest h) in
     let pages = opened_pages _ _ _ _ logged (c.in-Ok.ensures.writes h) in
     let log = opened_log _ _ _ _ logged (c.in-Ok.ensures.writes h) in
-    (λ t. changed (pages t) (log t))))
+    (λ t. changed_pages (pages t) (log t))))
 
 pub returns-in-Ok-clause-changes : goal.returns-in-Ok-clause-changes
 returns-in-Ok-clause-changes g c = rw (← c.self.view_is) (λ h.

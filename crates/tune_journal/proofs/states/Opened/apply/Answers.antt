@@ -1,7 +1,7 @@
 use Rattle.std.proofs.Common.{◌≡◌, ◌<◌, ◌∙◌, sym, ap, subst, ℕ, List, All, length, arith}
 use Rattle.tune_disk.specs.Disk.{DiskState}
 use Rattle.tune_journal.specs.Image.{log_of, pages_of}
-use Rattle.tune_journal.specs.Pages.{changed}
+use Rattle.tune_journal.specs.Pages.{changed_pages}
 use Rattle.tune_journal.proofs.Applying.{applying_since, applying_ends}
 use Rattle.tune_journal.proofs.Changed.{length-changed}
 use Rattle.tune_journal.proofs.Agreeing.{length-pages_of}
@@ -9,7 +9,7 @@ use Rattle.tune_journal.proofs.Standing.{log_same}
 use Rattle.tune_journal.proofs.Rests.{applied_leaves}
 use Rattle.tune_journal.proofs.states.Opened.apply.Goals as goal
 
-length_decided : (m : ℕ) (file : List ℕ) → length (changed (pages_of m file) (log_of file)) ≡ m
+length_decided : (m : ℕ) (file : List ℕ) → length (changed_pages (pages_of m file) (log_of file)) ≡ m
 length_decided m file = length-changed (pages_of m file) (log_of file) ∙ length-pages_of m file
 
 pub write_pages-requires : goal.write_pages-requires

@@ -5,7 +5,7 @@ use Rattle.tune_journal.specs.Image.{entries, log_of, pages_of}
 use Rattle.tune_journal.specs.Inside.Looking.{HasEntries}
 use Rattle.tune_journal.specs.Inside.Rest.{IsOpened}
 use Rattle.tune_journal.specs.Inside.Seen.{decided}
-use Rattle.tune_journal.specs.Pages.{changed}
+use Rattle.tune_journal.specs.Pages.{changed_pages}
 use Rattle.tune_journal.proofs.Applying.{applying_since, applying_ends, has_entries, entries_are_log}
 use Rattle.tune_journal.proofs.Changed.{length-changed}
 use Rattle.tune_journal.proofs.Agreeing.{length-pages_of}
@@ -61,7 +61,7 @@ returns-in-Ok-clause-pages g c = rw (← c.self.view_is) (λ h.
     let old = c.copy_log.ensures.calls.was_honest h in
     let asked = log_as_asked g.D.Disk.honest g.D.Disk.state c.self.inside.disk m c.args.entries c.args.self c.self.view_is
     (c.self.invariant.opened old) c.requires.entries old in
-    c.in-Ok.ensures.images h asked.has ∙ ap (changed (pages_of m s.seen)) asked.log))
+    c.in-Ok.ensures.images h asked.has ∙ ap (changed_pages (pages_of m s.seen)) asked.log))
 
 pub returns-in-Ok-clause-calls : goal.returns-in-Ok-clause-calls
 returns-in-Ok-clause-calls g c = rw (← c.self.view_is) (record {

@@ -1,6 +1,6 @@
 use Rattle.std.proofs.Common.{◌≡◌, ◌-◌, ◌++◌, ◌≤◌, List, Bool, false, length, replicate, take, sym, ◌∙◌, ap, arith, rules}
 use Rattle.std.proofs.lemmas.List.{take_all}
-use Rattle.tune_pages.specs.Work.{front}
+use Rattle.tune_pages.specs.Work.{front_in_use}
 use Rattle.tune_pages.proofs.Written.{laid, length-laid, laid_more, front_laid}
 use Rattle.tune_pages.proofs.page_marks.PageMarks.take_front.Goals as goal
 
@@ -17,4 +17,4 @@ returns c =
     let there : c.args.frontier ≤ length c.resize.new.self.items = search rules in
     ap (λ (l : List Bool). laid l n) c.mark_front.ensures.marks
     ∙ front_laid c.args.frontier c.resize.new.self.items n there
-    ∙ ap (λ (l : List Bool). front c.args.frontier l) (ap (λ (l : List Bool). laid l n) all ∙ laid_more m most n long within ∙ c.self.view_is)
+    ∙ ap (λ (l : List Bool). front_in_use c.args.frontier l) (ap (λ (l : List Bool). laid l n) all ∙ laid_more m most n long within ∙ c.self.view_is)

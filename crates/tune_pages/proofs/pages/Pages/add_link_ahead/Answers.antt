@@ -1,7 +1,7 @@
 use Rattle.std.proofs.Common.{◌≡◌, List, ℕ, ◌++◌, length, Some, ◌∙◌, ap, sym, subst, rules}
 use Rattle.std.proofs.lemmas.Option.{IfSome_then}
 use Rattle.tune_journal.specs.Pages.{page_at}
-use Rattle.tune_pages.specs.Chain.{next_of, piece_of, IsLink}
+use Rattle.tune_pages.specs.Chain.{next_page_of, piece_of, IsLink}
 use Rattle.tune_pages.specs.Inside.HeldPages.{held_disk, held_pages}
 use Rattle.tune_pages.specs.Kept.{Kept, HonestAt}
 use Rattle.tune_pages.specs.Work.{stand}
@@ -21,4 +21,4 @@ returns-in-Ok-clause-link g c =
     (let honest = subst (HonestAt g.D.Disk.honest) disk h in
     let same : c.in-Some.held.now ≡ page_at (stand c.args.self.now c.args.work.now).pages c.args.page =
     c.in-Some.ensures.page honest ∙ ap (λ (l : List (List ℕ)). page_at l c.args.page) pages ∙ there in
-    subst (λ (i : List ℕ). IsLink i × (next ≡ next_of i) × (c.try_link.new.bytes.items ≡ c.args.bytes.now.items ++ piece_of i)) same is))
+    subst (λ (i : List ℕ). IsLink i × (next ≡ next_page_of i) × (c.try_link.new.bytes.items ≡ c.args.bytes.now.items ++ piece_of i)) same is))

@@ -1,5 +1,5 @@
 use Rattle.std.proofs.Common.{◌<◌, ◌≤◌, ◌++◌, List, ℕ, length, arith, rules}
-use Rattle.tune_journal.specs.ChangeList.{padded}
+use Rattle.tune_journal.specs.ChangeList.{padded_image}
 use Rattle.tune_pages.specs.Stand.{Stand}
 use Rattle.tune_pages.specs.Work.{stand_on}
 use Rattle.tune_pages.proofs.Counting.{answers_for, ok_from, none_at_first}
@@ -11,7 +11,7 @@ use Rattle.tune_pages.proofs.pages.Pages.put_chain.Goals as goal
 pub returns-then-bytes-le-ROOM-clause-chain : goal.returns-then-bytes-le-ROOM-clause-chain
 returns-then-bytes-le-ROOM-clause-chain g c =
     let bytes : List ℕ = c.args.bytes.now in
-    let image : List ℕ = padded (c.head_of.result ++ bytes) in
+    let image : List ℕ = padded_image (c.head_of.result ++ bytes) in
     let old : Stand = stand_on c.args.self.now.pages c.args.self.now.used c.args.work.now in
     let now : Stand = stand_on c.args.self.now.pages c.args.self.now.used c.take_least.new.work in
     let some : 0 < length bytes = search rules in

@@ -1,8 +1,8 @@
 use Rattle.std.proofs.Common.{◌≡◌, ◌++◌, ℕ, List, Bool, false, length, sym, ◌∙◌, ap, subst, arith}
-use Rattle.tune_journal.specs.ChangeList.{padded}
+use Rattle.tune_journal.specs.ChangeList.{padded_image}
 use Rattle.tune_pages.specs.Kept.{Kept}
 use Rattle.tune_pages.specs.Stand.{IsFull, IsLeastFree}
-use Rattle.tune_pages.specs.Work.{stand_on, count_in}
+use Rattle.tune_pages.specs.Work.{stand_on, page_count_in}
 use Rattle.tune_pages.proofs.Taking.{stand_used, stand_pages, take_within, take_fits, take_stand}
 use Rattle.tune_journal.proofs.Above.{length-pages_after}
 use Rattle.tune_pages.proofs.Searching.{full_not_free, Facts, kept_facts, free_in, not_root}
@@ -27,7 +27,7 @@ returns-in-Ok-clause-fits g c =
     let P : Kept _ → Type 0 = λ k. k.closed ≡ false → Facts k.pages k.used in
     let facts = subst P c.self.view_is (kept_facts _ _ _ _ _ c.self.invariant.0) shut in
     let lt = free_in c.args.self.now.pages c.args.self.now.used c.args.work.now c.in-Some.page c.requires.fits c.in-Some.ensures.some.least.free in
-    let image : List ℕ = padded (c.args.head.now ++ c.args.rest.now) in
+    let image : List ℕ = padded_image (c.args.head.now ++ c.args.rest.now) in
     take_fits c.args.self.now.pages c.args.self.now.used c.args.work.now c.take.new.self c.in-Some.page image c.requires.fits facts.below lt
     c.in-Some.ensures.some
     c.in-Ok.ensures.changes c.in-Ok.ensures.frontier c.in-Ok.ensures.freed
@@ -43,12 +43,12 @@ returns-in-Ok-clause-within g c =
     let P : Kept _ → Type 0 = λ k. k.closed ≡ false → Facts k.pages k.used in
     let facts = subst P c.self.view_is (kept_facts _ _ _ _ _ c.self.invariant.0) shut in
     let lt = free_in c.args.self.now.pages c.args.self.now.used c.args.work.now c.in-Some.page c.requires.fits c.in-Some.ensures.some.least.free in
-    let image : List ℕ = padded (c.args.head.now ++ c.args.rest.now) in
+    let image : List ℕ = padded_image (c.args.head.now ++ c.args.rest.now) in
     let most = take_within c.args.self.now.pages c.args.self.now.used c.args.work.now c.take.new.self c.in-Some.page image c.requires.fits facts.below lt
     c.in-Some.ensures.some c.in-Ok.ensures.changes c.in-Ok.ensures.frontier c.in-Ok.ensures.freed in
-    let size : length (stand_on c.args.self.now.pages c.args.self.now.used c.args.work.now).pages ≡ count_in c.args.self.now.pages c.args.work.now =
+    let size : length (stand_on c.args.self.now.pages c.args.self.now.used c.args.work.now).pages ≡ page_count_in c.args.self.now.pages c.args.work.now =
     ap (λ (l : List (List ℕ)). length l) (stand_pages c.args.self.now.pages c.args.self.now.used c.args.work.now)
-    ∙ length-pages_after c.args.self.now.pages (count_in c.args.self.now.pages c.args.work.now) c.args.work.now.changes (omega arith) in (
+    ∙ length-pages_after c.args.self.now.pages (page_count_in c.args.self.now.pages c.args.work.now) c.args.work.now.changes (omega arith) in (
       not_root c.args.self.now.pages c.args.self.now.used c.args.work.now c.in-Some.page c.requires.fits facts.root c.in-Some.ensures.some.least.free,
       omega
           (arith, lt, facts.few),
@@ -61,7 +61,7 @@ returns-in-Ok-clause-stand g c =
     let P : Kept _ → Type 0 = λ k. k.closed ≡ false → Facts k.pages k.used in
     let facts = subst P c.self.view_is (kept_facts _ _ _ _ _ c.self.invariant.0) shut in
     let lt = free_in c.args.self.now.pages c.args.self.now.used c.args.work.now c.in-Some.page c.requires.fits c.in-Some.ensures.some.least.free in
-    let image : List ℕ = padded (c.args.head.now ++ c.args.rest.now) in
+    let image : List ℕ = padded_image (c.args.head.now ++ c.args.rest.now) in
     take_stand c.args.self.now.pages c.args.self.now.used c.args.work.now c.take.new.self c.in-Some.page image c.requires.fits facts.below lt
     c.in-Some.ensures.some
     c.in-Ok.ensures.changes c.in-Ok.ensures.frontier c.in-Ok.ensures.freed

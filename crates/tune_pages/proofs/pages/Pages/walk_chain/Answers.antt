@@ -1,6 +1,6 @@
 use Rattle.std.proofs.Common.{◌≡◌, ◌≢◌, ◌-◌, ◌++◌, length, false, refl, sym, ◌∙◌, ap, subst, arith, rules}
 use Rattle.tune_journal.specs.Pages.{page_at}
-use Rattle.tune_pages.specs.Chain.{next_of, piece_of, IsLink}
+use Rattle.tune_pages.specs.Chain.{next_page_of, piece_of, IsLink}
 use Rattle.tune_pages.specs.Inside.Walking.{HasLink}
 use Rattle.tune_pages.specs.Kept.{Kept}
 use Rattle.tune_pages.specs.Stand.{Stand}
@@ -38,7 +38,7 @@ loop-page-preserved g c =
       walk = λ h.
           let now = call.looks.was_honest h in
           let is = (stand_kept g.D.Disk.honest c.args.self.now c.loop-page.self c.args.work.now inv.looked.same).same now in
-          let P : Stand → Type 0 = λ s. IsLink (page_at s.pages c.loop-page.page) × (c.in-Ok-Some.next ≡ next_of (page_at s.pages c.loop-page.page))
+          let P : Stand → Type 0 = λ s. IsLink (page_at s.pages c.loop-page.page) × (c.in-Ok-Some.next ≡ next_page_of (page_at s.pages c.loop-page.page))
           × (c.read_piece.new.bytes.items ≡ c.loop-page.bytes.items ++ piece_of (page_at s.pages c.loop-page.page)) in
           let there = subst P is ((some.next h).0, (some.next h).1, some.bytes h) in
           reads_more (stand c.args.self.now c.args.work.now) c.args.first c.loop-page.page c.in-Ok-Some.next c.loop-page.bytes.items _

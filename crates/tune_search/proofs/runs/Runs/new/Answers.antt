@@ -3,8 +3,8 @@ use Rattle.tune_incipit.specs.Incipits.{incipit_of, tune_notes}
 use Rattle.tune_incipit.proofs.KeyLaws.{incipit_rises, scales_rise}
 use Rattle.tune_incipit.specs.Scales.{scale_of_text}
 use Rattle.tune_incipit.specs.ScaleAndIncipitKeys.{incipit_keys, scale_keys, scale_keys_of}
-use Rattle.tune_search.specs.IncipitForms.{entries_in, notes_in, notes_of_entries}
-use Rattle.tune_search.specs.Searches.{incipit_bytes, key_bytes, numbered}
+use Rattle.tune_search.specs.IncipitForms.{entries_of_incipits, note_count, notes_of_entries}
+use Rattle.tune_search.specs.Searches.{incipit_bytes, key_bytes, texts_numbered}
 use Rattle.tune_titles.proofs.KindLaws.{rhythm_rises, titles_rise}
 use Rattle.tune_titles.specs.TitleAndRhythmKeys.{rhythm_keys, rhythm_keys_of, title_keys, title_keys_of}
 use Rattle.tune_search.proofs.TextRuns.{gathered_more, is_run_of, shown_alone}
@@ -45,8 +45,8 @@ loop-place-preserved c =
       scales = gathered_more key_bytes scale_keys first place texts text scale was.scales.items scales l is own_scale put_scales.added put_scales.fit
           was.invariant.scales;
       notes = put_incipits.notes ∙ was.invariant.notes;
-      incipits = notes_more first place texts text (notes_of_entries was.incipits) (notes_in c.args.notes) (entries_in was.incipits)
-          (entries_in incipits) l is was.invariant.notes put_incipits.added put_incipits.fit was.invariant.incipits;
+      incipits = notes_more first place texts text (notes_of_entries was.incipits) (note_count c.args.notes) (entries_of_incipits was.incipits)
+          (entries_of_incipits incipits) l is was.invariant.notes put_incipits.added put_incipits.fit was.invariant.incipits;
     }
 
 -- the keys of a text rise, so each entry came once
@@ -63,7 +63,7 @@ returns c =
     let rhythms = c.in_order-2.ensures in
     let scales = c.in_order-3.ensures in
     let incipits = c.in_order-4.ensures in
-    let by = notes_in c.args.notes in
+    let by = note_count c.args.notes in
     let run = c.in_order-4.result in
     let notes : notes_of_entries run ≡ by = incipits.notes ∙ all.notes in
     record {
@@ -75,8 +75,8 @@ returns c =
             rhythms.sorted;
         scales = is_run_of key_bytes scale_keys first place texts was.scales.items c.in_order-3.result.items scales_rise few end all.scales scales.same
             scales.sorted;
-        incipits = notes_run by (notes_of_entries run) (numbered first texts) (entries_in run) (sym notes)
-            (is_run_of (incipit_bytes by) (incipit_keys by) first place texts (entries_in was.incipits) (entries_in run)
+        incipits = notes_run by (notes_of_entries run) (texts_numbered first texts) (entries_of_incipits run) (sym notes)
+            (is_run_of (incipit_bytes by) (incipit_keys by) first place texts (entries_of_incipits was.incipits) (entries_of_incipits run)
             (λ text. incipit_rises (incipit_bytes by) (incipit_of by (tune_notes text))) few end all.incipits incipits.same incipits.sorted);
       };
     }

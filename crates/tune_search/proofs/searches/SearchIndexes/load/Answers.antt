@@ -2,7 +2,7 @@ use Rattle.std.proofs.Common.{◌≡◌, ℕ, ◌^◌, ◌<◌, length, rules, r
 use Rattle.std.proofs.lemmas.Result.{err_from_is_err_and}
 use Rattle.tune_pages.specs.Claim.{IsChainFault}
 use Rattle.tune_pages.specs.declared.fault.ClaimFault.{ClaimFault}
-use Rattle.tune_search.specs.IncipitForms.{notes_in}
+use Rattle.tune_search.specs.IncipitForms.{note_count}
 use Rattle.tune_search.specs.Loaded.{AreStored}
 use Rattle.tune_search.proofs.LoadLemmas.{no_titles, no_rhythms, no_scales, no_incipits}
 use Rattle.tune_search.proofs.searches.SearchIndexes.load.Goals as goal
@@ -20,8 +20,8 @@ returns-in_err-titles-clause-damaged g c =
     let fault = c.in_err-titles.field-0.0 in
     let call = c.in_err-titles.ensures in
     rw p.1 (λ h.
-    subst (λ (f : ClaimFault). IsChainFault f (AreStored (notes_in c.args.notes) most start.pages start.claimed c.args.firsts)) (sym p.2)
-    (no_titles fault (notes_in c.args.notes) most start.pages start.pages start.claimed c.args.firsts refl few (call.damaged h)))
+    subst (λ (f : ClaimFault). IsChainFault f (AreStored (note_count c.args.notes) most start.pages start.claimed c.args.firsts)) (sym p.2)
+    (no_titles fault (note_count c.args.notes) most start.pages start.pages start.claimed c.args.firsts refl few (call.damaged h)))
 
 pub returns-in_err-rhythms-clause-damaged : goal.returns-in_err-rhythms-clause-damaged
 returns-in_err-rhythms-clause-damaged g c =
@@ -35,8 +35,8 @@ returns-in_err-rhythms-clause-damaged g c =
     rw p.1 (λ h.
     let after_titles = call.looks.was_honest h in
     let titles_same = titles.looks.same_pages after_titles in
-    subst (λ (f : ClaimFault). IsChainFault f (AreStored (notes_in c.args.notes) most start.pages start.claimed c.args.firsts)) (sym p.2)
-    (no_rhythms fault (notes_in c.args.notes) most c.load.new.opening.pages start.pages start.claimed c.args.firsts titles_same few c.load.new.opening.claimed
+    subst (λ (f : ClaimFault). IsChainFault f (AreStored (note_count c.args.notes) most start.pages start.claimed c.args.firsts)) (sym p.2)
+    (no_rhythms fault (note_count c.args.notes) most c.load.new.opening.pages start.pages start.claimed c.args.firsts titles_same few c.load.new.opening.claimed
     (record { now = start.pages; same = refl; shape = _; entries = _; loads = titles.loads after_titles }) (call.damaged h)))
 
 pub returns-in_err-scales-clause-damaged : goal.returns-in_err-scales-clause-damaged
@@ -54,8 +54,9 @@ returns-in_err-scales-clause-damaged g c =
     let after_titles = rhythms.looks.was_honest after_rhythms in
     let titles_same = titles.looks.same_pages after_titles in
     let rhythms_same = rhythms.looks.same_pages after_rhythms ∙ titles_same in
-    subst (λ (f : ClaimFault). IsChainFault f (AreStored (notes_in c.args.notes) most start.pages start.claimed c.args.firsts)) (sym p.2)
-    (no_scales fault (notes_in c.args.notes) most c.load-2.new.opening.pages start.pages start.claimed c.args.firsts rhythms_same few c.load.new.opening.claimed
+    subst (λ (f : ClaimFault). IsChainFault f (AreStored (note_count c.args.notes) most start.pages start.claimed c.args.firsts)) (sym p.2)
+    (no_scales fault
+    (note_count c.args.notes) most c.load-2.new.opening.pages start.pages start.claimed c.args.firsts rhythms_same few c.load.new.opening.claimed
     c.load-2.new.opening.claimed
     (record { now = start.pages; same = refl; shape = _; entries = _; loads = titles.loads after_titles })
     (record { now = c.load.new.opening.pages; same = titles_same; shape = _; entries = _; loads = rhythms.loads after_rhythms }) (call.damaged h)))
@@ -78,8 +79,8 @@ returns-in_err-incipits-clause-damaged g c =
     let titles_same = titles.looks.same_pages after_titles in
     let rhythms_same = rhythms.looks.same_pages after_rhythms ∙ titles_same in
     let scales_same = scales.looks.same_pages after_scales ∙ rhythms_same in
-    subst (λ (f : ClaimFault). IsChainFault f (AreStored (notes_in c.args.notes) most start.pages start.claimed c.args.firsts)) (sym p.2)
-    (no_incipits fault (notes_in c.args.notes) most c.load-3.new.opening.pages start.pages start.claimed c.args.firsts scales_same few
+    subst (λ (f : ClaimFault). IsChainFault f (AreStored (note_count c.args.notes) most start.pages start.claimed c.args.firsts)) (sym p.2)
+    (no_incipits fault (note_count c.args.notes) most c.load-3.new.opening.pages start.pages start.claimed c.args.firsts scales_same few
     c.load.new.opening.claimed c.load-2.new.opening.claimed c.load-3.new.opening.claimed
     (record { now = start.pages; same = refl; shape = _; entries = _; loads = titles.loads after_titles })
     (record { now = c.load.new.opening.pages; same = titles_same; shape = _; entries = _; loads = rhythms.loads after_rhythms })

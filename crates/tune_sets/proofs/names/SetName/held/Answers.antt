@@ -5,7 +5,7 @@ use Rattle.std.proofs.lemmas.Bool.Decides.{nat_tests}
 use Rattle.std.proofs.lemmas.List.{drop-replicate}
 use Rattle.tune_sets.specs.Limits.{longest_name}
 use Rattle.tune_sets.specs.Names.{is_good_name}
-use Rattle.tune_sets.specs.Inside.HeldNames.{IsHeldName, padded}
+use Rattle.tune_sets.specs.Inside.HeldNames.{IsHeldName, padded_name}
 use Rattle.tune_sets.proofs.names.SetName.held.Goals as goal
 
 short_name : (name : List ℕ) → is_good_name name ≡ true → length name ≤ longest_name
@@ -21,7 +21,7 @@ held name front tail good copied rest =
       short = short_name name good;
       size = ap length begins;
       good = ap is_good_name begins ∙ good;
-      zeros = ap padded begins ∙ ap (λ more. name ++ more) (sym zeros);
+      zeros = ap padded_name begins ∙ ap (λ more. name ++ more) (sym zeros);
     }
 
 pub invariant_of-result : goal.invariant_of-result
