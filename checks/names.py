@@ -6,7 +6,8 @@ that is wrong and ends with 1, or prints one line and ends with 0. Wrong is
 
 - a file name that stands in src/ or in specs/ of two crates, but for Lib, Laws, Limits and Main;
 - a public type of that name in two files of src/, or a record of that name in two files of specs/;
-- a public definition of that name in specs/ of two crates, those of tests among them;
+- a public definition of that name in specs/ of two crates, those of tests among them, also where
+  it stands within a module;
 - a public type that docs/GLOSSARY.md does not name in a code span.
 
 The names that stand twice today are in checks/data/names.txt: what it is, the name, and where. The
@@ -26,7 +27,9 @@ EVERYWHERE = {'lib', 'laws', 'limits', 'main', 'inside'}
 TYPE = re.compile(r'^pub (?:struct|enum|trait) (\w+)', re.M)
 RECORD = re.compile(r'^(?:abbrev |unfoldable )?(?:pub )?(?:record|data) ([^\s:({]+)', re.M)
 DEFINITION = re.compile(
-    r'^(?:abbrev |unfoldable )?pub (?:record |data )?(?!mod |use )([^\s:({]+)', re.M)
+    # Within a record `pub` alone begins a field.
+    r'^(?:(?:abbrev |unfoldable )?pub (?:record |data )?|'
+    r' +(?:(?:abbrev |unfoldable )pub |pub (?:record |data )))(?!mod |use )([^\s:({]+)', re.M)
 
 
 def read(path):
