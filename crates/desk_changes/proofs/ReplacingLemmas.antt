@@ -1,5 +1,5 @@
 -- A replacement, by its parts: the book, what it comes to, and what is printed.
-use Rattle.std.proofs.Common.{◌≡◌, ◌≢◌, ◌⊎◌, inl, inr, ℕ, List, [], ◌∷◌, ◌++◌, Option, Some, None, Result, Ok, Err, refl, sym, ap, ◌∙◌, subst}
+use Rattle.std.proofs.Common.{◌≡◌, inl, inr, ℕ, List, Option, Some, None, Err, refl, ap, ◌∙◌, subst}
 use Rattle.std.specs.Prelude.{IfSome, codes}
 use Rattle.tune_disk.specs.declared.disk.Disk as disk
 use Rattle.tune_store.specs.State.{State, tune_at}
@@ -11,7 +11,6 @@ use Rattle.tune_scripts.specs.Streams.{Streams, streams_in}
 use Rattle.tune_scripts.specs.declared.console.Console as console
 use Rattle.tune_asking.specs.AskingCalls.{tune_or, tune_told}
 use Rattle.tune_changes.specs.Planning.{one_turn, planned_replace, text_replaced}
-use Rattle.tune_changes.specs.declared.turns.Turn.{Turn}
 use Rattle.tune_desk.specs.DeskDeeds.{DeskDeed}
 use Rattle.desk_scenes.specs.Printing.{ReadsAll, WritesOrFails}
 use Rattle.desk_scenes.specs.Scenes.{Scene}

@@ -1,9 +1,9 @@
 -- An undoing, by its parts: entries, changes, and the book that they stand in.
-use Rattle.std.proofs.Common.{◌≡◌, ◌≢◌, ◌⊎◌, inl, inr, ◌<◌, ◌≤◌, ℕ, ◌+◌, ◌-◌, List, [], ◌∷◌, ◌++◌, Bool, true, false, ◌||◌, take, drop, length, get_or, refl}
+use Rattle.std.proofs.Common.{◌≡◌, ◌≢◌, inl, inr, ◌<◌, ℕ, ◌+◌, List, [], ◌∷◌, ◌++◌, Bool, true, false, ◌||◌, take, drop, length, get_or, refl}
 use Rattle.std.proofs.Common.{sym, ◌∙◌, ap, subst, append_assoc, append-nil}
-use Rattle.std.proofs.Common.{Some, None, Ok, Err, arith, if◌then◌else◌}
-use Rattle.std.specs.Prelude.{Option, Result, IfOk, MatchResult, Vec}
-use Rattle.std.proofs.lemmas.List.{drop_more, drop-take, take-take}
+use Rattle.std.proofs.Common.{Some, None, Ok, Err, arith}
+use Rattle.std.specs.Prelude.{Option, Result, IfOk, IfErr, MatchResult, Vec}
+use Rattle.std.proofs.lemmas.List.{drop_more}
 use Rattle.std.specs.Option.{option_to_list}
 use Rattle.tune_store.specs.State.{State}
 use Rattle.tune_disk.specs.declared.disk.Disk as disk
@@ -11,12 +11,14 @@ use Rattle.tune_disk.specs.declared.file.Access.TheVariants.{Change}
 use Rattle.tune_archive.specs.AsStore.{store_on}
 use Rattle.tune_archive.specs.Shelf.{Shelf}
 use Rattle.tune_asking.specs.Asking.{IsOnlyAsked}
-use Rattle.tune_asking.proofs.CallLemmas.{asked_none, asked_more}
+use Rattle.tune_asking.proofs.CallLemmas.{asked_more}
 use Rattle.tune_store.specs.declared.command.Refusal.{Refusal}
 use Rattle.tune_store.specs.declared.command.Reply.{Reply}
 use Rattle.tune_desk.specs.DeskDeeds.{DeskDeed, opened, closed, read}
 use Rattle.tune_desk.specs.Results.{old_of}
 use Rattle.tune_desk.specs.declared.desk.DeskFault.{DeskFault}
+use Rattle.tune_desk.specs.declared.desk.DeskFault.TheVariants.{Missing}
+use Rattle.desk_changes.specs.ToldChanges.{LacksBook}
 use Rattle.desk_scenes.specs.OpenedFile.{IsArchiveOf}
 use Rattle.desk_scenes.specs.Scenes.{IsQuiet}
 use Rattle.desk_scenes.proofs.QuietLemmas.{quiet_one}
@@ -27,12 +29,12 @@ use Rattle.tune_undo.specs.declared.old_entries.Part.{Part}
 use Rattle.tune_undo.specs.declared.old_entries.Step.{Step}
 use Rattle.tune_desk.specs.OldTexts.{Grows}
 use Rattle.desk_changes.specs.ChangedFiles.{Passage, IsChangedWithin}
-use Rattle.desk_changes.specs.Inside.TriedUndoings.{EndsFrom, FindsSteps, steps_of, TriesEntries, TriesChange, TriesTimes, TriesByBook, TriesWithin}
+use Rattle.desk_changes.specs.Inside.TriedUndoings.{FindsSteps, steps_of, TriesEntries, TriesChange, TriesTimes, TriesByBook, TriesWithin}
 use Rattle.desk_changes.specs.OldChanges.{BookChange, changes_of_steps, ReadsSteps}
 use Rattle.desk_changes.specs.TakenBack.{BeginsUndoing, IsAccepted, all_gone_by, entry_of_texts, gone_by}
 use Rattle.desk_changes.specs.TakenBack.{FindsUnchanged, KeepsOldTexts, RenumbersOne, UndoesEntry, UndoesEntries, UndoesChange}
 use Rattle.desk_changes.specs.TakenBack.{BreaksOffEntry, BreaksOffEntries, BreaksOffChange}
-use Rattle.desk_changes.proofs.BookLemmas.{split_at}
+use Rattle.desk_changes.proofs.BookLemmas.{EndsIn, split_at, split_more}
 use Rattle.desk_changes.specs.Undone.{GoesBack, UndoesLast, UndoesFewer, UsesBook, FindsNoBook}
 
 -- texts that are kept, where there are any
@@ -119,26 +121,6 @@ module _ {D : Type 0} (disks : disk.Ghosts D) where
       pub split : changes_of_steps (steps_of changes) ≡ changes_of_steps (steps_of (take left changes)) ++ gone
       pub counted : taken + wanted ≡ count
       pub back : GoesBack disks file gone taken course
-
-    -- the changes that are left end in one
-    abbrev pub EndsIn : List Step → ℕ → ℕ → BookChange → Type 0
-    EndsIn changes left first change =
-        changes_of_steps (steps_of (take left changes)) ≡ changes_of_steps (steps_of (take first changes)) ++ change ∷ []
-
-    pub ends_in : (changes : List Step) (left first : ℕ) → first ≤ left → EndsFrom first (take left changes)
-        → EndsIn changes left first (steps_of (take (left - first) (drop first changes)))
-    ends_in changes left first within ends =
-        let on : first + (left - first) ≡ left = omega (arith, within) in
-        let same : drop first (take left changes) ≡ take (left - first) (drop first changes) =
-        ap (λ n. drop first (take n changes)) (sym on) ∙ drop-take first (left - first) changes in
-        ends ∙ ap (λ l. changes_of_steps (steps_of l) ++ steps_of (drop first (take left changes)) ∷ []) (take-take first left changes within)
-        ∙ ap (λ l. changes_of_steps (steps_of (take first changes)) ++ steps_of l ∷ []) same
-
-    split_more : (changes : List Step) (left first : ℕ) (change : BookChange) (gone : List BookChange) → EndsIn changes left first change
-        → changes_of_steps (steps_of changes) ≡ changes_of_steps (steps_of (take left changes)) ++ gone
-        → changes_of_steps (steps_of changes) ≡ changes_of_steps (steps_of (take first changes)) ++ change ∷ gone
-    split_more changes left first change gone ends split =
-        split ∙ ap (λ some. some ++ gone) ends ∙ append_assoc (changes_of_steps (steps_of (take first changes))) (change ∷ []) gone
 
     -- one more, in which there was something to be taken back, or not
     pub one_taken : (changes : List Step) (left first wanted fewer count : ℕ) (change : BookChange)
@@ -277,3 +259,10 @@ found_in file path (Ok book) (Ok steps) was now same deed found =
     }
 found_in file path (Err fault) (Ok steps) was now same deed found = absurd found
 found_in file path book (Err why) was now same deed found = quiet_one was now (read path book) deed refl
+
+pub missing_in : {D A X : Type 0} (file path : List ℕ) (book : Result (List ℕ) DeskFault) (result : Result X A) (Is : A → Type 0) (was now : List (DeskDeed D))
+    → path ≡ old_of file → now ≡ was ++ read path book ∷ [] → IfErr result (λ why. Is why → book ≡ Err Missing)
+    → IfErr result (λ why. Is why → LacksBook file was now)
+missing_in file path book (Ok steps) Is was now same deed lacks = tt
+missing_in file path book (Err why) Is was now same deed lacks = λ is.
+    deed ∙ ap (λ p. was ++ read p book ∷ []) same ∙ ap (λ b. was ++ read (old_of file) b ∷ []) (lacks is)

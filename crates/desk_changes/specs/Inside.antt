@@ -1,4 +1,5 @@
 pub mod HeldTunes
+pub mod ListedParts
 pub mod Replacing
 pub mod TriedUndoings
 pub mod Turning

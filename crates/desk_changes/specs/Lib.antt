@@ -6,4 +6,5 @@ pub mod Kinds
 pub mod OldChanges
 pub mod ReplacedTunes
 pub mod TakenBack
+pub mod ToldChanges
 pub mod Undone

@@ -13,6 +13,7 @@ use Rattle.desk_scenes.specs.Printing.{Prints}
 use Rattle.desk_scenes.specs.Scenes.{Scene, IsQuiet}
 use Rattle.desk_scenes.specs.Visits.{Visits}
 use Rattle.desk_changes.specs.ChangedFiles.{Passage, IsChangedWithin}
+use Rattle.desk_changes.specs.ToldChanges.{ListsChanges}
 use Rattle.desk_changes.specs.OldChanges.{BookChange, changes_of_steps, ReadsSteps}
 use Rattle.desk_changes.specs.TakenBack.{IsStill, UndoesChange, BreaksOffChange}
 
@@ -79,9 +80,8 @@ UndoesFile disks file count scene =
     ⊎ IsChangedWithin disks file (UsesBook file (UndoesFewer disks file count))
     scene.was scene.now)))
 
--- THE THEOREM OF AN UNDOING. Changes are listed, and nothing is done with files but to read; or so
--- many are taken back.
+-- THE THEOREM OF AN UNDOING. Changes are listed; or so many are taken back.
 abbrev pub Undoes : {D : Type 0} → disk.Ghosts D → List ℕ → Undoing → Scene D → Type 0
 Undoes disks file undoing.Last scene = UndoesFile disks file 1 scene
 Undoes disks file (undoing.To count) scene = UndoesFile disks file count scene
-Undoes disks file (undoing.List form) scene = IsQuiet scene.was scene.now
+Undoes disks file (undoing.List form) scene = ListsChanges file form scene

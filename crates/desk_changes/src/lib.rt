@@ -4,6 +4,7 @@
 
 mod altering;
 mod change_lists;
+mod change_subjects;
 mod entries;
 mod held_tunes;
 mod laws;

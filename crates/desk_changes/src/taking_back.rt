@@ -1,11 +1,13 @@
 // The order that takes changes back.
-ghost use Rattle.std.specs.Prelude.{◌≡◌, ◌<◌, ◌||◌, IfOk, MatchResult, None, true, false};
+ghost use Rattle.std.specs.Prelude.{◌≡◌, ◌<◌, ◌||◌, IfOk, IfErr, MatchResult, Err, None};
+ghost use Rattle.std.specs.Prelude.{true, false};
 ghost use Rattle.std.specs.Prelude.{length, string_bytes};
 ghost use Rattle.std.specs.List.{list_any};
 ghost use Rattle.tune_archive.specs.AsStore.{store_on};
 ghost use Rattle.tune_asking.specs.Asking.{IsOnlyAsked};
 ghost use Rattle.tune_changes.specs.Judging.{verdict_on};
 ghost use Rattle.tune_changes.specs.declared.judging.Verdict.TheVariants.{Before};
+ghost use Rattle.tune_desk.specs.declared.desk.DeskFault.TheVariants.{Missing};
 ghost use Rattle.tune_desk.specs.Results.{SparesFiles, result_places};
 ghost use Rattle.tune_scripts.specs.Streams.{streams_in};
 ghost use Rattle.tune_undo.specs.OldEntries.{step_value};
@@ -15,6 +17,8 @@ ghost use Rattle.desk_changes.specs.Inside.TriedUndoings.{AreStanding, EndsFrom,
 ghost use Rattle.desk_changes.specs.Inside.TriedUndoings.{FinishesEntry, TriesEntry};
 ghost use Rattle.desk_changes.specs.Inside.TriedUndoings.{TriesEntries, TriesChange, TriesTimes};
 ghost use Rattle.desk_changes.specs.Inside.TriedUndoings.{TriesByBook, TriesWithin, steps_of};
+ghost use Rattle.desk_changes.specs.declared.words.NotUndone.TheVariants.{NoBook};
+ghost use Rattle.desk_changes.specs.ToldChanges.{LacksBook};
 ghost use Rattle.desk_changes.specs.OldChanges.{ReadsSteps, is_further};
 ghost use Rattle.desk_changes.specs.TakenBack.{AreUnchanged, BeginsUndoing, IsUnchanged, KeepsGone};
 ghost use Rattle.desk_changes.specs.TakenBack.{Stood};
@@ -140,10 +144,12 @@ pub(crate) fn read_changes<K: AllocGlobal + Desk>(
     desk: &mut K,
     file: &String,
 ) -> Result<Vec<Step>, NotUndone>
-    ensures { MatchResult result
+    ensures reads { MatchResult result
         (λ steps. ReadsSteps (string_bytes file.now) (steps_of steps.items)
         (K.deeds desk.old) (K.deeds desk.new))
         (λ _. IsQuiet (K.deeds desk.old) (K.deeds desk.new)) }
+    ensures lacks { IfErr result (λ why. why ≡ NoBook
+        → LacksBook (string_bytes file.now) (K.deeds desk.old) (K.deeds desk.new)) }
 {
     let Ok(old) = format!(in desk.alloc(); "{file}.old.abc") else {
         return Err(NotUndone::OutOfMemory);
@@ -154,10 +160,14 @@ pub(crate) fn read_changes<K: AllocGlobal + Desk>(
 
 // Those of a book, which is read as it is once its last line is ended.
 fn steps_in(alloc: Global, book: Result<ByteText, DeskFault>) -> Result<Vec<Step>, NotUndone>
-    ensures { IfOk result (λ steps. FindsSteps book (steps_of steps.items)) }
+    ensures finds { IfOk result (λ steps. FindsSteps book (steps_of steps.items)) }
+    ensures lacks { IfErr result (λ why. why ≡ NoBook → book ≡ Err Missing) }
 {
     match book {
-        Ok(book) => Ok(steps_of(alloc, book)?),
+        Ok(book) => match steps_of(alloc, book) {
+            Ok(steps) => Ok(steps),
+            Err(_) => Err(NotUndone::OutOfMemory),
+        },
         Err(DeskFault::Missing) => Err(NotUndone::NoBook),
         Err(fault) => Err(NotUndone::Unread(fault)),
     }

@@ -42,12 +42,13 @@ place_objects place [] = []
 place_objects place (row ∷ rows) = place_object place row ++ place_objects (place + 1) rows
 
 -- SET LISTS
-abbrev pub name_members : List ℕ → List Token
-name_members name = key (codes "name") ∷ string (text_bytes name) ∷ []
+-- a member whose value is the text of these bytes
+abbrev pub text_members : List ℕ → List ℕ → List Token
+text_members name bytes = key name ∷ string (text_bytes bytes) ∷ []
 
 abbrev pub set_object : SetRow → List Token
 set_object row =
-    begin_object ∷ (name_members row.name
+    begin_object ∷ (text_members (codes "name") row.name
     ++ (key (codes "places") ∷ number (decimal row.places) ∷ end_object ∷ []))
 
 abbrev pub set_objects : List SetRow → List Token

@@ -1,3 +1,4 @@
+pub mod ChangeRows
 pub mod CsvTables
 pub mod FoldedWords
 pub mod Folding

@@ -3,14 +3,14 @@ ghost use Rattle.std.specs.Prelude.{◌≡◌, ◌++◌, ◌∷◌, [], IfOk, On
 ghost use Rattle.json.specs.Print.{print};
 ghost use Rattle.json.specs.Token.{end_array, key, number};
 ghost use Rattle.desk_lists.specs.JsonLists.{array_bytes, place_objects, set_object};
-ghost use Rattle.desk_lists.specs.JsonLists.{name_members, set_objects, title_members};
+ghost use Rattle.desk_lists.specs.JsonLists.{set_objects, text_members, title_members};
 ghost use Rattle.desk_lists.specs.JsonLists.{tune_members, tune_objects};
 
 use crate::shown_texts::text_of;
 use abc_fields::ByteText;
 use json::Writer;
 use std::alloc::{AllocError, Global};
-use tune_sets::{SetName, SetRow};
+use tune_sets::SetRow;
 use tune_store::IndexRow;
 
 // An object for each tune.
@@ -109,17 +109,23 @@ fn put_set(alloc: Global, out: &mut Writer, row: &SetRow) -> Result<(), AllocErr
     ensures before { OnOk result (out.new.before ≡ out.old.before) }
 {
     out.begin_object()?;
-    put_name(alloc, out, &row.name)?;
+    put_text(alloc, out, "name", row.name.as_slice())?;
     put_number(out, "places", row.places as u64)?;
     out.end_object()
 }
 
-// The member of a name.
-fn put_name(alloc: Global, out: &mut Writer, name: &SetName) -> Result<(), AllocError>
-    ensures tokens { OnOk result (out.new.tokens ≡ out.old.tokens ++ name_members name.now) }
+// A member whose value is the text of these bytes.
+pub(crate) fn put_text(
+    alloc: Global,
+    out: &mut Writer,
+    name: &str,
+    bytes: &[u8],
+) -> Result<(), AllocError>
+    ensures tokens { OnOk result
+        (out.new.tokens ≡ out.old.tokens ++ text_members name.now bytes.now) }
     ensures before { OnOk result (out.new.before ≡ out.old.before) }
 {
-    out.key("name")?;
-    let text = text_of(alloc, name.as_slice())?;
+    out.key(name)?;
+    let text = text_of(alloc, bytes)?;
     out.string(text.as_str())
 }

@@ -1,9 +1,10 @@
-//! Lists of tunes and of set lists, as people and as programs read them, and titles without their
-//! accents and capitals.
+//! Lists of tunes, of set lists and of changes, as people and as programs read them, and titles
+//! without their accents and capitals.
 //!
 //! What takes memory says so by an `AllocError`, its only error.
 #![tactic(auto)]
 
+mod change_rows;
 mod folded_words;
 mod folding;
 mod json_lists;
@@ -14,6 +15,7 @@ mod shown_texts;
 mod tables;
 mod twins;
 
+pub use change_rows::{ChangeRow, change_list};
 pub use folded_words::{FoldedWords, fold_title};
 pub use folding::folded;
 pub use laws::law_of_words;

@@ -2,13 +2,10 @@
 //! results to files: `tunes-book` hands its commands over to it.
 #![tactic(auto)]
 
-mod file_desk;
-mod voice;
-
+use desk_files::{FileDesk, NOTHING, ProgressLine, Voice};
 use desk_orders::carry_out;
 use desk_scenes::Progress;
 use desk_words::{Order, Words, report, words_of};
-use file_desk::{FileDesk, NOTHING};
 use std::env::VarError;
 use std::fs::{File, Files};
 use std::io::{BufReader, BufWriter, IsTerminal, Write};
@@ -17,7 +14,6 @@ use std::rt::Runtime;
 use std::{env, io};
 use tune_cli::StreamConsole;
 use tune_disk::UnknownHistory;
-use voice::{ProgressLine, Voice};
 
 /// How many bytes are read at once, and how many of a list are written at once.
 const BUFFER: usize = 65_536;

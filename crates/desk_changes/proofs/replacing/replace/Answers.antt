@@ -1,4 +1,4 @@
-use Rattle.std.proofs.Common.{None, false, inl, inr, string_bytes, refl, arith}
+use Rattle.std.proofs.Common.{None, false, inl, inr, string_bytes, arith}
 use Rattle.tune_desk.specs.Results.{result_places}
 use Rattle.tune_desk.proofs.SpareLemmas.{spares_both}
 use Rattle.desk_scenes.proofs.FileLemmas.{quiet_spares}

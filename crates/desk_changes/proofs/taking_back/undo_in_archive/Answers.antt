@@ -12,19 +12,19 @@ use Rattle.desk_changes.proofs.taking_back.undo_in_archive.Goals as goal
 pub returns-in_err-changes-clause-works : goal.returns-in_err-changes-clause-works
 returns-in_err-changes-clause-works g c =
     let file = string_bytes c.args.file.now in
-    beside_files g.D.Disk file _ _ _ (quiet_spares g.D.Disk (result_places file None false) _ _ c.in_err-changes.ensures)
+    beside_files g.D.Disk file _ _ _ (quiet_spares g.D.Disk (result_places file None false) _ _ c.in_err-changes.ensures.reads)
 
 pub returns-clause-works : goal.returns-clause-works
 returns-clause-works g c =
     let file = string_bytes c.args.file.now in
     beside_both g.D.Disk file _ _ _ _ _ _
-    (beside_files g.D.Disk file _ _ _ (quiet_spares g.D.Disk (result_places file None false) _ _ (reads_quiet file _ _ _ c.in_ok-changes.ensures)))
+    (beside_files g.D.Disk file _ _ _ (quiet_spares g.D.Disk (result_places file None false) _ _ (reads_quiet file _ _ _ c.in_ok-changes.ensures.reads)))
     c.undo_times.ensures.works
 
 pub returns-in_err-changes-clause-undoes : goal.returns-in_err-changes-clause-undoes
 returns-in_err-changes-clause-undoes g c =
     let p = err_from_is_err_and c.from_residual.result c.from_residual.ensures.1 in
-    rw p.1 (inl (refl, c.in_err-changes.ensures))
+    rw p.1 (inl (refl, c.in_err-changes.ensures.reads))
 
 pub returns-clause-undoes : goal.returns-clause-undoes
 returns-clause-undoes g c =
@@ -32,4 +32,4 @@ returns-clause-undoes g c =
     let same : c.in_ok-changes.changes.items ≡ c.as_slice.result.now = search rules in
     book_then g.D.Disk file c.args.count (steps_of c.as_slice.result.now) c.undo_times.result _ _ _ _ _
     (subst (λ (l : List Step). ReadsSteps file (steps_of l) (g.K.Desk.deeds c.args.desk.now) (g.K.Desk.deeds c.read_changes.new.desk)) same
-    c.in_ok-changes.ensures) c.undo_times.ensures.undoes
+    c.in_ok-changes.ensures.reads) c.undo_times.ensures.undoes

@@ -1,4 +1,4 @@
-use Rattle.std.proofs.Common.{refl, None, false, Ok, inl, inr, string_bytes}
+use Rattle.std.proofs.Common.{refl, None, false, Ok, inl, string_bytes}
 use Rattle.tune_disk.specs.declared.file.Access.TheVariants.{Change}
 use Rattle.tune_desk.specs.DeskDeeds.{opened, closed}
 use Rattle.tune_desk.specs.Results.{result_places}

@@ -1,9 +1,10 @@
-use Rattle.std.proofs.Common.{◌≡◌, ◌≤◌, ◌<◌, ◌∷◌, ◌+◌, ◌-◌, ◌∙◌, List, length, take, drop, arith, sym, ap, subst, refl, true, false, string_bytes}
+use Rattle.std.proofs.Common.{◌<◌, ◌-◌, length, take, drop, arith, subst, string_bytes}
 use Rattle.std.proofs.lemmas.Result.{err_from_is_err_and}
 use Rattle.std.proofs.lemmas.List.{length-take-le, take_all}
 use Rattle.desk_changes.specs.Inside.TriedUndoings.{steps_of}
 use Rattle.desk_changes.specs.TakenBack.{UndoesChange}
-use Rattle.desk_changes.proofs.UndoLemmas.{back_none, ends_in, last_undone, next_broken, none_left, one_passed, one_taken}
+use Rattle.desk_changes.proofs.BookLemmas.{ends_in}
+use Rattle.desk_changes.proofs.UndoLemmas.{back_none, last_undone, next_broken, none_left, one_passed, one_taken}
 use Rattle.desk_changes.proofs.WorkLemmas.{beside_none, beside_both, course_of}
 use Rattle.desk_changes.proofs.taking_back.undo_times.Goals as goal
 
@@ -40,7 +41,7 @@ returns-in_err-took_place-clause-undoes g c =
     let p = err_from_is_err_and c.from_residual.result c.from_residual.ensures.1 in
     let change = steps_of (take (left - first) (drop first changes)) in
     rw p.1 (next_broken g.D.Disk (string_bytes c.args.file.now) changes left first c.loop-wanted.wanted c.args.count change _ _ _
-    _ _ _ c.loop-wanted.invariant.so (ends_in g.D.Disk (string_bytes c.args.file.now) changes left first (omega (arith, less, long))
+    _ _ _ c.loop-wanted.invariant.so (ends_in changes left first (omega (arith, less, long))
     (c.first_of-first.ensures.ends some)) (omega arith) c.in_err-took_place.ensures.undoes)
 
 pub loop-wanted-preserved-then-took_place : goal.loop-wanted-preserved-then-took_place
@@ -60,7 +61,7 @@ loop-wanted-preserved-then-took_place g c =
       within = omega (arith, less, long, c.loop-wanted.invariant.within);
       works = beside_both g.D.Disk file _ _ _ _ _ _ c.loop-wanted.invariant.works c.undo_change.ensures.works;
       so = one_taken g.D.Disk file changes left first wanted (wanted - 1) c.args.count change _ _ _ _ _ _ c.loop-wanted.invariant.so
-          (ends_in g.D.Disk file changes left first (omega (arith, less, long)) (c.first_of-first.ensures.ends some)) (omega arith)
+          (ends_in changes left first (omega (arith, less, long)) (c.first_of-first.ensures.ends some)) (omega arith)
           (subst (λ b. UndoesChange g.D.Disk file change b course) c.if-took_place.true c.in_ok-took_place.ensures.undoes);
     }
 
@@ -80,7 +81,7 @@ loop-wanted-preserved g c =
       within = omega (arith, less, long, c.loop-wanted.invariant.within);
       works = beside_both g.D.Disk file _ _ _ _ _ _ c.loop-wanted.invariant.works c.undo_change.ensures.works;
       so = one_passed g.D.Disk file changes left first c.loop-wanted.wanted c.args.count change _ _ _ _ _ _ c.loop-wanted.invariant.so
-          (ends_in g.D.Disk file changes left first (omega (arith, less, long)) (c.first_of-first.ensures.ends some))
+          (ends_in changes left first (omega (arith, less, long)) (c.first_of-first.ensures.ends some))
           (subst (λ b. UndoesChange g.D.Disk file change b course) c.if-took_place.false c.in_ok-took_place.ensures.undoes);
     }
 

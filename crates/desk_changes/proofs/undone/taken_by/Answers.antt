@@ -1,4 +1,4 @@
-use Rattle.std.proofs.Common.{◌≡◌, ◌<◌, List, get_or, subst, ◌++◌, ◌∷◌, [], ◌+◌, ◌∙◌, Option, Some, None, length, drop, refl, sym, ap, arith, rules, append-nil}
+use Rattle.std.proofs.Common.{◌≡◌, ◌<◌, List, get_or, subst, ◌++◌, ◌+◌, ◌∙◌, Option, length, drop, sym, ap, arith, rules, append-nil}
 use Rattle.std.proofs.Common.{append_assoc}
 use Rattle.std.specs.Option.{option_to_list}
 use Rattle.std.proofs.lemmas.List.{drop_all}

@@ -16,7 +16,7 @@ const ERASE: &str = "\r\x1b[K";
 
 /// The line on standard error that tells how far an order is.
 #[derive(Drop)]
-pub(crate) struct ProgressLine<'a, R> {
+pub struct ProgressLine<'a, R> {
     rt: &'a R,
     // When it may be told anew; none where it is never to be.
     next: Cell<Option<Instant>>,
@@ -26,7 +26,7 @@ pub(crate) struct ProgressLine<'a, R> {
 
 impl<'a, R: Clock> ProgressLine<'a, R> {
     /// Nothing is told yet; where standard error is no terminal, nothing ever is.
-    pub(crate) fn new(rt: &'a R, is_terminal: bool) -> ProgressLine<'a, R> {
+    pub fn new(rt: &'a R, is_terminal: bool) -> ProgressLine<'a, R> {
         let next = if is_terminal {
             after(rt, SILENCE_MILLIS)
         } else {
@@ -58,7 +58,7 @@ fn has_come<R: Clock>(rt: &R, moment: Instant) -> bool {
 
 impl<'a, R: Eprint> ProgressLine<'a, R> {
     /// Takes the line away, if it is there: what comes next stands in its place.
-    pub(crate) fn clear(&self) {
+    pub fn clear(&self) {
         if self.is_there.get() {
             self.is_there.set(false);
             let _ = eprint!(self.rt; "{ERASE}");
@@ -67,7 +67,7 @@ impl<'a, R: Eprint> ProgressLine<'a, R> {
 
     /// Tells what the system answered of a path, or of a stream. Where that cannot be written, the
     /// status says enough.
-    pub(crate) fn tell(&self, path: &str, error: &io::Error) {
+    pub fn tell(&self, path: &str, error: &io::Error) {
         self.clear();
         let _ = eprintln!(self.rt; "tunes-book: {path}: {error}");
     }
@@ -89,13 +89,14 @@ impl<'a, 'b, R: Clock + Eprint> Progress for &'b ProgressLine<'a, R> {
 
 /// Standard output or standard error: what is written stands in the place of that line.
 #[derive(Drop)]
-pub(crate) struct Voice<'a, R, W> {
+pub struct Voice<'a, R, W> {
     line: &'a ProgressLine<'a, R>,
     stream: W,
 }
 
 impl<'a, R, W> Voice<'a, R, W> {
-    pub(crate) fn new(line: &'a ProgressLine<'a, R>, stream: W) -> Voice<'a, R, W> {
+    /// A stream beside this line.
+    pub fn new(line: &'a ProgressLine<'a, R>, stream: W) -> Voice<'a, R, W> {
         Voice { line, stream }
     }
 }

@@ -18,7 +18,7 @@ use tune_desk::{Desk, DeskFault, DeskLog, Standing};
 use tune_disk::{Access, FileDisk, FileHistory};
 
 /// The device that gives no bytes.
-pub(crate) const NOTHING: &str = "/dev/null";
+pub const NOTHING: &str = "/dev/null";
 
 // How long is waited between two tries for a lock.
 const PAUSE_MILLIS: u64 = 100;
@@ -42,7 +42,7 @@ const SHARED_BITS: u32 = 0o066;
 /// The files of a program, by their paths. Why the device failed is told on standard error, with
 /// the path.
 #[derive(Drop)]
-pub(crate) struct FileDesk<'a, R, H> {
+pub struct FileDesk<'a, R, H> {
     rt: &'a R,
     // The line that tells how far an order is.
     line: &'a ProgressLine<'a, R>,
@@ -60,7 +60,7 @@ pub(crate) struct FileDesk<'a, R, H> {
 
 impl<'a, R: Files<File = File>, H> FileDesk<'a, R, H> {
     /// The error is that of `NOTHING`.
-    pub(crate) fn new(
+    pub fn new(
         rt: &'a R,
         line: &'a ProgressLine<'a, R>,
         wait: u32,
