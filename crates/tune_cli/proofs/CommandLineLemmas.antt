@@ -1,5 +1,6 @@
 -- The program's command line, and the subcommands that its words can name.
 use Rattle.std.proofs.Common.{◌≡◌, ap, ◌∙◌, refl, Bool, true, false, cond, inl, inr, List, [], ◌∷◌, Option, Some, None, option_map, find}
+use Rattle.std.proofs.Common.{ℕ, zero, suc, ◌<◌, arith, fold, length, map, slice_index_or, take}
 use Rattle.std.specs.Prelude.{⊤, IfSome}
 use Rattle.clap.specs.declared.builder.command.Command.{Command}
 use Rattle.clap.specs.declared.builder.command.Command.TheViews.{out-Command}
@@ -16,6 +17,13 @@ app_of_more top sub new app more of_top of_sub local adds =
     adds.shape local
     ∙ ap (λ a. with_subcommand a (shape_of sub)) of_top
     ∙ ap (λ (a : App). with_subcommand app a.top) of_sub
+
+-- the next of some rows, in turn
+pub next_in_turn : {A B C : Type 0} (step : B → C → B) (made : A → C) (start : B) (rows : List A) (index : ℕ) (default : A) → index < length rows
+    → step (fold step start (map made (take index rows))) (made (slice_index_or rows index default)) ≡ fold step start (map made (take (suc index) rows))
+next_in_turn step made start [] index default h = absurd (omega arith)
+next_in_turn step made start (row ∷ rows) zero default h = refl
+next_in_turn step made start (row ∷ rows) (suc index) default h = next_in_turn step made (step start (made row)) rows index default (omega arith)
 
 abbrev pub EachIs : (Shape → Type 0) → List Shape → Type 0
 EachIs P [] = ⊤

@@ -31,9 +31,13 @@ abbrev pub subcommands : List App
 subcommands = new_app (codes "list") ∷ file_app (codes "make") ∷ file_app (codes "run")
     ∷ file_app (codes "check") ∷ file_app (codes "upgrade") ∷ []
 
+-- one subcommand more
+abbrev pub with_more : App → App → App
+with_more app more = with_subcommand app more.top
+
 -- the program's command line
 abbrev pub tunes_app : App
-tunes_app = fold (λ app more. with_subcommand app more.top) tunes_alone subcommands
+tunes_app = fold with_more tunes_alone subcommands
 
 -- the name of the subcommand in the words
 abbrev pub subcommand_in : List (List ℕ) → Option (List ℕ)

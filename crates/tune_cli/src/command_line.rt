@@ -1,10 +1,11 @@
 // The words of the program: what they may ask for, how they are read, and what is told where they
 // ask for nothing.
 ghost use Rattle.std.specs.Prelude.{◌≡◌, ◌≢◌, ◌⊎◌, Some, None, false, IfOk, IfErr, IfSome, IsOk};
-ghost use Rattle.std.specs.Prelude.{codes, option_map};
-ghost use Rattle.clap.specs.Words.{app_of};
+ghost use Rattle.std.specs.Prelude.{codes, fold, map, option_map};
+ghost use Rattle.clap.specs.Words.{app_of, new_app};
 ghost use Rattle.clap.specs.declared.builder.command.Command.TheViews.{out-Command};
-ghost use Rattle.tune_cli.specs.CommandLine.{tunes_app, file_app, name_of, file_of};
+ghost use Rattle.tune_cli.specs.CommandLine.{tunes_app, tunes_alone, file_app, with_more};
+ghost use Rattle.tune_cli.specs.CommandLine.{name_of, file_of};
 ghost use Rattle.tune_cli.specs.CommandLine.{IsOutOfMemory, status_of_fault};
 ghost use Rattle.tune_cli.specs.Inside.Subcommands.{IsSubcommand};
 ghost use Rattle.tune_cli.specs.declared.command_line.WordsFault.TheVariants.{Missing};
@@ -52,30 +53,57 @@ impl From<AllocError> for WordsFault {
     }
 }
 
+// The subcommands on a file: the name of each, and what it does.
+const FILE_COMMANDS: [(&str, &str); 4] = [
+    ("make", "Makes an empty archive in FILE"),
+    (
+        "run",
+        "Runs the script of standard input on the archive in FILE",
+    ),
+    ("check", "Tells how much the archive in FILE holds"),
+    ("upgrade", "Brings the archive in FILE to layout 2"),
+];
+
 // The program's command line.
 pub(crate) fn command_line<'a>(alloc: Global) -> Result<Command<'a>, AllocError>
     ensures { IfOk result (λ command. app_of command ≡ tunes_app) }
 {
-    let list = Command::new(alloc, "list").about(
-        "Runs the script of standard input on an empty archive in memory",
-    );
-    let make = file_command(alloc, "make", "Makes an empty archive in FILE")?;
-    let run = file_command(
-        alloc,
-        "run",
-        "Runs the script of standard input on the archive in FILE",
-    )?;
-    let check = file_command(alloc, "check", "Tells how much the archive in FILE holds")?;
-    let upgrade = file_command(alloc, "upgrade", "Brings the archive in FILE to layout 2")?;
+    let listing = program(alloc).subcommand(list(alloc))?;
+    with_file_commands(alloc, listing, &FILE_COMMANDS)
+}
+
+fn with_file_commands<'a>(
+    alloc: Global,
+    command: Command<'a>,
+    rows: &'static [(&'static str, &'static str)],
+) -> Result<Command<'a>, AllocError>
+    ensures { IfOk result (λ all. app_of all
+        ≡ fold with_more (app_of command.entry) (map (λ row. file_app row.0.now) rows.now)) }
+{
+    let mut all = command;
+    for row in rows {
+        all = all.subcommand(file_command(alloc, row.0, row.1)?)?;
+    }
+    Ok(all)
+}
+
+// The program, before its subcommands.
+fn program<'a>(alloc: Global) -> Command<'a>
+    ensures { app_of result ≡ tunes_alone }
+{
     Command::new(alloc, "tunes")
         .about("An archive of tunes in ABC notation")
         .version(VERSION)
         .disable_help_subcommand(true)
-        .subcommand(list)?
-        .subcommand(make)?
-        .subcommand(run)?
-        .subcommand(check)?
-        .subcommand(upgrade)
+}
+
+fn list<'a>(alloc: Global) -> Command<'a>
+    ensures app { app_of result ≡ new_app (codes "list") }
+    ensures local { (out-Command result).has_globals ≡ false }
+{
+    Command::new(alloc, "list").about(
+        "Runs the script of standard input on an empty archive in memory",
+    )
 }
 
 // A subcommand on a file.
