@@ -1,1 +1,2 @@
+pub mod FileDoings
 pub mod Subcommands

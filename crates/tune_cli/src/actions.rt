@@ -8,7 +8,7 @@ ghost use Rattle.tune_cli.specs.CommandLine.{faults_in, FaultFits};
 ghost use Rattle.tune_cli.specs.ProgramLines.{status_of};
 
 use crate::command_line::{Action, WordsFault, asked, command_line};
-use crate::file_actions::{check, make, run_file, upgrade};
+use crate::file_actions::{FileAction, on_file};
 use std::alloc::Global;
 use tune_disk::{Disk, Drive};
 use tune_scripts::{Console, RunEnd, run};
@@ -59,10 +59,10 @@ pub fn act<C: Console, D: Disk, T: AllocGlobal + Drive<Disk = D>>(
 {
     match action {
         Action::List => list(drive.alloc(), console),
-        Action::Make(file) => make(drive, file, console),
-        Action::Run(file) => run_file(drive, file, console),
-        Action::Check(file) => check(drive, file, console),
-        Action::Upgrade(file) => upgrade(drive, file, console),
+        Action::Make(file) => on_file(drive, file, FileAction::Make, console),
+        Action::Run(file) => on_file(drive, file, FileAction::Run, console),
+        Action::Check(file) => on_file(drive, file, FileAction::Check, console),
+        Action::Upgrade(file) => on_file(drive, file, FileAction::Upgrade, console),
     }
 }
 

@@ -1,10 +1,11 @@
 // What the program does with an archive in a file.
-ghost use Rattle.std.specs.Prelude.{◌≡◌, codes, false, true, ℕ, string_bytes, OnOk};
+ghost use Rattle.std.specs.Prelude.{◌≡◌, ◌++◌, ◌∷◌, [], codes, false, true, ℕ, string_bytes};
+ghost use Rattle.std.specs.Prelude.{IfOk, OnOk};
 ghost use Rattle.std.specs.Io.KnownBytes.{Appends};
-ghost use Rattle.tune_disk.specs.Deeds.{opened, created};
 ghost use Rattle.tune_pages.specs.Kept.{HonestAt};
 ghost use Rattle.tune_archive.specs.Shelf.{state_of};
 ghost use Rattle.tune_cli.specs.Acts.{OnFile, deeds_in};
+ghost use Rattle.tune_cli.specs.Inside.FileDoings.{Does, asking_to};
 ghost use Rattle.tune_scripts.specs.Replies.{answer_bytes, line_of};
 ghost use Rattle.tune_scripts.specs.Streams.{IsWrite, streams_in};
 ghost use Rattle.tune_cli.specs.FileActs.{Makes, Checks, RunsOn, UpgradesOrNot};
@@ -25,6 +26,15 @@ const DONE: u8 = 0;
 const FAILED: u8 = 1;
 
 const NO_ARCHIVE: u8 = 3;
+
+// What the program may do with an archive in a file.
+#[derive(Clone, Copy)]
+pub(crate) enum FileAction {
+    Make,
+    Run,
+    Check,
+    Upgrade,
+}
 
 /// What became of an action on a disk.
 #[derive(Drop)]
@@ -132,19 +142,20 @@ pub fn upgrade_on<C: Console, D: Disk>(alloc: Global, console: &mut C, disk: D) 
     }
 }
 
-// Makes an archive in the file at a path.
-pub(crate) fn make<C: Console, D: Disk, T: AllocGlobal + Drive<Disk = D>>(
+// Does it with the archive in the file at a path.
+pub(crate) fn on_file<C: Console, D: Disk, T: AllocGlobal + Drive<Disk = D>>(
     drive: &mut T,
     path: &String,
+    what: FileAction,
     console: &mut C,
 ) -> u8
     ensures { let streams = streams_in C.Console console.old console.new in
-        OnFile created (string_bytes path.now) (Makes D.Disk streams) streams
+        OnFile (asking_to what) (string_bytes path.now) (Does D.Disk what streams) streams
         (deeds_in T.Drive drive.old drive.new) result }
 {
-    match drive.create(path) {
+    match disk_for(drive, path, what) {
         Ok(disk) => {
-            let Done { status, disk } = make_on(drive.alloc(), console, disk);
+            let Done { status, disk } = do_on(drive.alloc(), what, console, disk);
             drive.close(path, disk);
             status
         }
@@ -152,63 +163,30 @@ pub(crate) fn make<C: Console, D: Disk, T: AllocGlobal + Drive<Disk = D>>(
     }
 }
 
-// Tells how much the archive in the file at a path holds.
-pub(crate) fn check<C: Console, D: Disk, T: AllocGlobal + Drive<Disk = D>>(
+// The disk of the file at a path, which an archive is made on, or stands on.
+fn disk_for<D: Disk, T: Drive<Disk = D>>(
     drive: &mut T,
     path: &String,
-    console: &mut C,
-) -> u8
-    ensures { let streams = streams_in C.Console console.old console.new in
-        OnFile opened (string_bytes path.now) (Checks D.Disk streams) streams
-        (deeds_in T.Drive drive.old drive.new) result }
+    what: FileAction,
+) -> Result<D, DeviceFault>
+    ensures deed { T.Drive.deeds drive.new
+        ≡ T.Drive.deeds drive.old ++ asking_to what (string_bytes path.now) result ∷ [] }
+    ensures is_new { IfOk result T.Drive.is_new }
 {
-    match drive.open(path) {
-        Ok(disk) => {
-            let Done { status, disk } = check_on(drive.alloc(), console, disk);
-            drive.close(path, disk);
-            status
-        }
-        Err(DeviceFault) => say_reason(console, OpenFault::Device),
+    match what {
+        FileAction::Make => drive.create(path),
+        _ => drive.open(path),
     }
 }
 
-// Brings the archive in the file at a path to layout 2.
-pub(crate) fn upgrade<C: Console, D: Disk, T: AllocGlobal + Drive<Disk = D>>(
-    drive: &mut T,
-    path: &String,
-    console: &mut C,
-) -> u8
-    ensures { let streams = streams_in C.Console console.old console.new in
-        OnFile opened (string_bytes path.now) (UpgradesOrNot D.Disk streams) streams
-        (deeds_in T.Drive drive.old drive.new) result }
+fn do_on<C: Console, D: Disk>(alloc: Global, what: FileAction, console: &mut C, disk: D) -> Done<D>
+    ensures { Does D.Disk what (streams_in C.Console console.old console.new) disk result }
 {
-    match drive.open(path) {
-        Ok(disk) => {
-            let Done { status, disk } = upgrade_on(drive.alloc(), console, disk);
-            drive.close(path, disk);
-            status
-        }
-        Err(DeviceFault) => say_reason(console, OpenFault::Device),
-    }
-}
-
-// Runs a script on the archive in the file at a path.
-pub(crate) fn run_file<C: Console, D: Disk, T: AllocGlobal + Drive<Disk = D>>(
-    drive: &mut T,
-    path: &String,
-    console: &mut C,
-) -> u8
-    ensures { let streams = streams_in C.Console console.old console.new in
-        OnFile opened (string_bytes path.now) (RunsOn D.Disk streams) streams
-        (deeds_in T.Drive drive.old drive.new) result }
-{
-    match drive.open(path) {
-        Ok(disk) => {
-            let Done { status, disk } = run_on(drive.alloc(), console, disk);
-            drive.close(path, disk);
-            status
-        }
-        Err(DeviceFault) => say_reason(console, OpenFault::Device),
+    match what {
+        FileAction::Make => make_on(alloc, console, disk),
+        FileAction::Run => run_on(alloc, console, disk),
+        FileAction::Check => check_on(alloc, console, disk),
+        FileAction::Upgrade => upgrade_on(alloc, console, disk),
     }
 }
 

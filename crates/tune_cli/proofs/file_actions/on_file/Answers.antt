@@ -1,14 +1,14 @@
 use Rattle.std.proofs.Common.{refl, Ok, Err}
 use Rattle.tune_cli.proofs.DriveLemmas.{two_deeds}
-use Rattle.tune_cli.proofs.file_actions.upgrade.Goals as goal
+use Rattle.tune_cli.proofs.file_actions.on_file.Goals as goal
 
 pub returns-in-Ok : goal.returns-in-Ok
 returns-in-Ok g c = (
   Ok c.in-Ok.disk,
   (
-    c.upgrade_on-status.result,
+    c.do_on-status.result,
     c.in-Ok.ensures.is_new,
-    c.upgrade_on-status.ensures.upgrades,
+    c.do_on-status.ensures,
     refl,
     two_deeds _ _ _ _ _ c.in-Ok.ensures.deed c.close.ensures.deed,
   ),
