@@ -1,7 +1,7 @@
--- Commands and arguments by what the parser reads of them: with one setting more, one argument more, one command more and
--- several more.
-use Rattle.std.proofs.Common.{◌≡◌, ap, ◌∙◌, refl, sym, Bool, true, false, ◌||◌, Bor, List, ◌++◌, ℕ}
-use Rattle.std.proofs.lemmas.List.Sums.{fold-append}
+-- Commands and arguments by what the parser reads of them: with one setting more, one argument more and one command more.
+use Rattle.std.proofs.Common.{◌≡◌, ap, ◌∙◌, refl, sym, Bool, true, false, ◌||◌, Bor, List, ℕ, ◌+◌, ◌<◌, length, fold, map, take, get_or}
+use Rattle.std.proofs.lemmas.List.{map_more}
+use Rattle.std.proofs.lemmas.List.Sums.{fold_push}
 use Rattle.std.specs.Prelude.{IsSomeAnd, Option, Some, None}
 use Rattle.clap.specs.declared.builder.action.ArgAction.{ArgAction}
 use Rattle.clap.specs.declared.builder.arg.Arg.{Arg}
@@ -11,7 +11,7 @@ use Rattle.clap.specs.declared.builder.texts.Texts.TheVariants.{One}
 use Rattle.clap.specs.declared.builder.range.ValueRange.{ValueRange}
 use Rattle.clap.specs.Lexer.{usize_max}
 use Rattle.clap.specs.Simple.{Shape, app_of_fields, on_top}
-use Rattle.desk_words.specs.DeskCommands.{more, needed, with_commands}
+use Rattle.desk_words.specs.DeskCommands.{more, needed}
 use Rattle.clap.specs.Words.{AddsArg, AddsSubcommand, App, Rule, Text, app_of, rule_of, shape_of, with_rule, with_subcommand}
 use Rattle.desk_words.specs.Inside.Commands.{HasApp, HasRule}
 
@@ -68,31 +68,10 @@ rule_more a b rule has e some =
       own = ap (λ (x : Arg). x.global) e ∙ has.own;
     }
 
-pub app_about : (old new : Command) (app : App) (text : Bor Text) → HasApp old app
-    → out-Command new ≡ record (out-Command old) { about = Some text } → HasApp new app
-app_about old new app text has e = record {
-  app_is = ap app_of_fields e ∙ has.app_is;
-  local = ap (λ fields. fields.has_globals) e ∙ has.local;
-}
-
 neither : (a b : Bool) → a ≡ false → b ≡ false → (a || b) ≡ false
 neither false false p q = refl
 neither true b p q = cc
 neither false true p q = cc
-
-pub app_long_about : (old new : Command) (app : App) (text : Bor Text) → HasApp old app
-    → out-Command new ≡ record (out-Command old) { long_about = Some text } → HasApp new app
-app_long_about old new app text has e = record {
-  app_is = ap app_of_fields e ∙ has.app_is;
-  local = ap (λ fields. fields.has_globals) e ∙ has.local;
-}
-
-pub app_usage : (old new : Command) (app : App) (text : Bor Text) → HasApp old app
-    → out-Command new ≡ record (out-Command old) { usage_str = Some text } → HasApp new app
-app_usage old new app text has e = record {
-  app_is = ap app_of_fields e ∙ has.app_is;
-  local = ap (λ fields. fields.has_globals) e ∙ has.local;
-}
 
 pub app_help : (old new : Command) (app : App) (text : Bor Text) → HasApp old app
     → out-Command new ≡ record (out-Command old) { help_str = Some text } → HasApp new app
@@ -127,10 +106,7 @@ pub one_more : (old new : Command) (app : App) (top : Shape) → app_of old ≡ 
     → app_of new ≡ with_subcommand app top
 one_more old new app top of_old adds = adds ∙ ap (λ (all : App). with_subcommand all top) of_old
 
-more_commands : (app : App) (first rest : List App) → with_commands (with_commands app first) rest ≡ with_commands app (first ++ rest)
-more_commands app first rest = sym (fold-append (λ (all : App) (command : App). with_subcommand all command.top) app first rest)
-
-pub then_commands : (old new : Command) (app : App) (first rest : List App) → app_of old ≡ with_commands app first
-    → app_of new ≡ with_commands (app_of old) rest → app_of new ≡ with_commands app (first ++ rest)
-then_commands old new app first rest before adds =
-    adds ∙ ap (λ (all : App). with_commands all rest) before ∙ more_commands app first rest
+-- one more turn of a loop over the rows of a table
+pub fold_map_more : {X Y Z : Type 0} (f : Z → Y → Z) (g : X → Y) (z : Z) (xs : List X) (i : ℕ) (d : X) → i < length xs
+    → fold f z (map g (take (i + 1) xs)) ≡ f (fold f z (map g (take i xs))) (g (get_or xs i d))
+fold_map_more f g z xs i d lt = ap (fold f z) (map_more g xs i d lt) ∙ fold_push f z (map g (take i xs)) (g (get_or xs i d))

@@ -128,8 +128,11 @@ program_alone = with_rule
 abbrev pub with_commands : App → List App → App
 with_commands app commands = fold (λ all command. with_subcommand all command.top) app commands
 
+-- all commands, in the order in which help lists them
+abbrev pub all_commands : List App
+all_commands = ((((((find_commands ++ list_commands) ++ commands_on_tunes) ++ other_commands)
+    ++ change_commands) ++ place_commands) ++ copy_commands) ++ told_commands
+
 -- the program's command line
 unfoldable pub desk_app : App
-desk_app = with_commands program_alone
-    (((((((find_commands ++ list_commands) ++ commands_on_tunes) ++ other_commands)
-    ++ change_commands) ++ place_commands) ++ copy_commands) ++ told_commands)
+desk_app = with_commands program_alone all_commands

@@ -1,3 +1,4 @@
+pub mod CommandTable
 pub mod Commands
 pub mod Joining
 pub mod Sorting

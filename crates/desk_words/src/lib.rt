@@ -3,8 +3,8 @@
 
 mod arranging;
 mod asked;
-mod change_commands;
 mod change_meanings;
+mod command_table;
 mod desk_commands;
 mod found;
 mod joining;

@@ -1,8 +1,0 @@
-use Rattle.std.proofs.lemmas.Result.{IfOk-weaker}
-use Rattle.desk_words.proofs.CommandLemmas.{app_with_rule}
-use Rattle.desk_words.proofs.change_commands.undo.Goals as goal
-
-pub returns : goal.returns
-returns c =
-    let with_list = app_with_rule _ _ _ _ _ c.in_ok-listing.ensures c.flag.ensures c.in_ok-arg.ensures in
-    IfOk-weaker c.arg-2.result _ _ (λ all adds. app_with_rule _ all _ _ _ with_list c.option.ensures adds) c.arg-2.ensures
