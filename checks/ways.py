@@ -48,7 +48,7 @@ IMPORT = b'import %d\n%b' % (len(BOOK), BOOK)
 OPEN = 'tune_archive', 'open'
 READ = 'tune_scripts', 'read_line'
 APPLY = 'tune_archive', 'apply'
-DRIVE = 'tunes', 'open'
+ON_FILE = 'tune_cli', 'on_file'
 
 
 class Way(NamedTuple):
@@ -66,7 +66,7 @@ WAYS = [
     Way('An import into a file', ('run',), IMPORT, 2, READ, True),
     Way('A find in a file', ('run',), b'find title kesh\n', 2, READ, False),
     Way('An upgrade of a file', ('upgrade',), b'', 1, APPLY, True),
-    Way('An opening', ('check',), b'', 2, DRIVE, False),
+    Way('An opening', ('check',), b'', 2, ON_FILE, False),
 ]
 # Functions, files and changes of file of a way, at most.
 MOST = 300, 70, 150
