@@ -22,6 +22,7 @@ use Rattle.desk_backups.specs.BackupFiles.{IsNamed, SparesCopies, SparesCopy}
 use Rattle.desk_backups.specs.Backups.{BacksUp, CopiesFile, CopiesWhole, FileRead, HasCopied, HasCopy, MakesCopy, PutsOrSpares, WritesSum}
 use Rattle.desk_backups.specs.CopyNames.{copy_places, numbered_copy, sum_line, sum_places}
 use Rattle.desk_backups.specs.Inside.Copying.{SparesSum, SumsWhole}
+use Rattle.desk_backups.specs.NextCopies.{FindsNextCopy}
 use Rattle.desk_backups.specs.OldCopies.{ThinsBy}
 use Rattle.desk_backups.specs.declared.backup_reasons.Unbacked.{Unbacked}
 
@@ -243,15 +244,15 @@ module _ {D : Type 0} (disks : disk.Ghosts D) (file copy : List ℕ) (keep : Opt
       )
 
   pub named_backs : (path : List ℕ) (number : ℕ) (was rested begun now : List (DeskDeed D)) → path ≡ numbered_copy copy number
-      → Did was rested (IsUnasked disks file) → IsQuiet rested begun → CopiesWhole disks file path (ThinsBy file copy number keep) begun now
+      → Did was rested (IsUnasked disks file) → FindsNextCopy copy number rested begun → CopiesWhole disks file path (ThinsBy file copy number keep) begun now
       → (done : BacksUp disks file copy keep was now) × (done.number ≡ number)
-  named_backs path number was rested begun now same did quiet h = (
+  named_backs path number was rested begun now same did finds h = (
     record {
       number = number;
       rested = rested;
       begun = begun;
       rests = did;
-      asks = quiet;
+      asks = finds;
       copies = subst (λ p. CopiesWhole disks file p (ThinsBy file copy number keep) begun now) same h;
     },
     refl,

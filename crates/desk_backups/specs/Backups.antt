@@ -11,8 +11,9 @@ use Rattle.desk_copies.specs.Copies.{CopiesArchive}
 use Rattle.desk_copies.specs.declared.archive_copies.Copied.{Copied}
 use Rattle.desk_scenes.specs.FileAnswers.{Did, IsUnasked}
 use Rattle.desk_scenes.specs.Printing.{IsSilent, PrintsOrNot}
-use Rattle.desk_scenes.specs.Scenes.{Scene, IsQuiet}
+use Rattle.desk_scenes.specs.Scenes.{Scene}
 use Rattle.desk_backups.specs.CopyNames.{numbered_copy, sum_line, copy_places, sum_places}
+use Rattle.desk_backups.specs.NextCopies.{FindsNextCopy}
 use Rattle.desk_backups.specs.OldCopies.{ThinsBy}
 use Rattle.desk_backups.specs.declared.backup_reasons.Unbacked.{Unbacked}
 
@@ -69,14 +70,14 @@ pub record CopiesWhole {D : Type 0} (disks : disk.Ghosts D) (file path : List �
     pub sums : WritesSum file path copied.sum made summed
     pub thins : Thins summed now
 
--- FILE was brought to rest, a name was found for the copy, and that was done.
+-- FILE was brought to rest, the next name was found for the copy, and that was done.
 pub record BacksUp {D : Type 0} (disks : disk.Ghosts D) (file copy : List ℕ) (keep : Option ℕ)
     (was now : List (DeskDeed D)) : Type 0 where
   pub number : ℕ
   pub rested : List (DeskDeed D)
   pub begun : List (DeskDeed D)
   pub rests : Did was rested (IsUnasked disks file)
-  pub asks : IsQuiet rested begun
+  pub asks : FindsNextCopy copy number rested begun
   pub copies : CopiesWhole disks file (numbered_copy copy number) (ThinsBy file copy number keep)
       begun now
 

@@ -1,3 +1,4 @@
 pub mod Checking
 pub mod Copying
+pub mod Numbering
 pub mod Thinned

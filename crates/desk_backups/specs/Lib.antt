@@ -3,4 +3,5 @@ pub mod Backups
 pub mod CheckedCopies
 pub mod CopyNames
 pub mod Inside
+pub mod NextCopies
 pub mod OldCopies

@@ -1,7 +1,15 @@
 // Which name a copy gets.
-ghost use Rattle.std.specs.Prelude.{◌≡◌, IfOk, string_bytes};
+ghost use Rattle.std.specs.Prelude.{◌≡◌, ℕ, ◌≤◌, [], map, IfOk, IfSome, MatchOption, string_bytes};
+ghost use Rattle.std.specs.Bool.{Decides};
+ghost use Rattle.std.specs.Char.{IsAsciiDigit};
+ghost use Rattle.std.specs.List.{All, Contains};
+ghost use Rattle.tune_desk.specs.KeptNames.{folder_of};
+ghost use Rattle.desk_scenes.specs.FileAnswers.{Did};
 ghost use Rattle.desk_scenes.specs.Scenes.{IsQuiet};
 ghost use Rattle.desk_backups.specs.CopyNames.{numbered_copy};
+ghost use Rattle.desk_backups.specs.Inside.Numbering.{AreListedCopies, IsCopyNumber, TellsNumbers};
+ghost use Rattle.desk_backups.specs.NextCopies.{CountsCopies, FindsNextCopy, IsCopyName};
+ghost use Rattle.desk_backups.specs.NextCopies.{NumbersCopy};
 
 use crate::backup_reasons::Unbacked;
 use desk_copies::sum_path;
@@ -39,6 +47,8 @@ pub(crate) fn find_name<K: AllocGlobal + Desk>(
     copy: &String,
 ) -> Result<NamedCopy, Unbacked>
     ensures quiet { IsQuiet (K.deeds desk.old) (K.deeds desk.new) }
+    ensures next { IfOk result (λ named. FindsNextCopy (string_bytes copy.now) named.number
+        (K.deeds desk.old) (K.deeds desk.new)) }
     ensures named { IfOk result (λ named. string_bytes named.path
         ≡ numbered_copy (string_bytes copy.now) named.number) }
 {
@@ -86,16 +96,34 @@ fn next_number<K: AllocGlobal + Desk>(
     file: &String,
     copy: &String,
 ) -> Result<u32, Unbacked>
-    ensures { IsQuiet (K.deeds desk.old) (K.deeds desk.new) }
+    ensures quiet { IsQuiet (K.deeds desk.old) (K.deeds desk.new) }
+    ensures next { IfOk result (λ number. FindsNextCopy (string_bytes copy.now) number
+        (K.deeds desk.old) (K.deeds desk.new)) }
 {
     match desk.look(copy) {
-        Ok(Standing::File) => {
-            spare_file(desk, file, copy)?;
-            next_behind(desk, copy, Some(0))
-        }
-        Ok(Standing::Nothing) => next_behind(desk, copy, None),
-        Ok(_) => Ok(0),
+        Ok(standing) => next_by(desk, file, copy, standing),
         Err(fault) => Err(Unbacked::Unasked(fault)),
+    }
+}
+
+// The same by what stands at COPY.
+fn next_by<K: AllocGlobal + Desk>(
+    desk: &mut K,
+    file: &String,
+    copy: &String,
+    standing: Standing,
+) -> Result<u32, Unbacked>
+    ensures quiet { IsQuiet (K.deeds desk.old) (K.deeds desk.new) }
+    ensures numbers { IfOk result (λ number. Did (K.deeds desk.old) (K.deeds desk.new)
+        (NumbersCopy standing (string_bytes copy.now) number)) }
+{
+    match standing {
+        Standing::File => {
+            spare_file(desk, file, copy)?;
+            next_behind(desk, copy, standing)
+        }
+        Standing::Nothing => next_behind(desk, copy, standing),
+        _ => Ok(0),
     }
 }
 
@@ -113,26 +141,35 @@ fn spare_file<K: Desk>(desk: &mut K, file: &String, copy: &String) -> Result<(),
     }
 }
 
-// The number behind the greatest that stands there.
+// The number behind the greatest that is there, where COPY itself is 0 if a file stands there.
 fn next_behind<K: AllocGlobal + Desk>(
     desk: &mut K,
     copy: &String,
-    there: Option<u32>,
+    standing: Standing,
 ) -> Result<u32, Unbacked>
-    ensures { IsQuiet (K.deeds desk.old) (K.deeds desk.new) }
+    ensures quiet { IsQuiet (K.deeds desk.old) (K.deeds desk.new) }
+    ensures counts { IfOk result (λ number. Did (K.deeds desk.old) (K.deeds desk.new)
+        (CountsCopies standing (string_bytes copy.now) number)) }
 {
     let numbers = numbers_there(desk, copy)?;
-    let greatest = match numbers.iter().max() {
-        Some(number) => Some(*number),
-        None => there,
-    };
-    match greatest {
+    match greatest(numbers.as_slice()) {
         Some(number) => match number.checked_add(1) {
             Some(next) => Ok(next),
             None => Err(Unbacked::Name),
         },
-        None => Ok(0),
+        None => match standing {
+            Standing::File => Ok(1),
+            _ => Ok(0),
+        },
     }
+}
+
+fn greatest(numbers: &[u32]) -> Option<u32>
+    ensures { MatchOption result (numbers.now ≡ [])
+        (λ greatest. Contains numbers.now greatest
+        × All (λ number. number ≤ greatest) numbers.now) }
+{
+    numbers.iter().copied().max()
 }
 
 /// The numbers N of each COPY.N that stands there, sorted.
@@ -140,7 +177,9 @@ pub(crate) fn numbers_there<K: AllocGlobal + Desk>(
     desk: &mut K,
     copy: &String,
 ) -> Result<Vec<u32>, Unbacked>
-    ensures { IsQuiet (K.deeds desk.old) (K.deeds desk.new) }
+    ensures quiet { IsQuiet (K.deeds desk.old) (K.deeds desk.new) }
+    ensures told { IfOk result (λ numbers. Did (K.deeds desk.old) (K.deeds desk.new)
+        (TellsNumbers (string_bytes copy.now) numbers.items)) }
 {
     let Ok(folder) = folder_of(desk.alloc(), copy) else {
         return Err(Unbacked::OutOfMemory);
@@ -156,7 +195,9 @@ pub(crate) fn numbers_there<K: AllocGlobal + Desk>(
 }
 
 // The folder of a path.
-fn folder_of(alloc: Global, path: &String) -> Result<String, AllocError> {
+fn folder_of(alloc: Global, path: &String) -> Result<String, AllocError>
+    ensures { IfOk result (λ folder. string_bytes folder ≡ folder_of (string_bytes path.now)) }
+{
     match Path::new(path.as_str()).parent() {
         Some(folder) if folder.as_str().is_empty() => String::from_str(alloc, "."),
         Some(folder) => String::from_str(alloc, folder.as_str()),
@@ -165,7 +206,10 @@ fn folder_of(alloc: Global, path: &String) -> Result<String, AllocError> {
 }
 
 // The numbers of these names that are COPY's, sorted.
-fn numbers_in(alloc: Global, names: &[String], copy: &String) -> Result<Vec<u32>, AllocError> {
+fn numbers_in(alloc: Global, names: &[String], copy: &String) -> Result<Vec<u32>, AllocError>
+    ensures { IfOk result (λ numbers.
+        AreListedCopies (string_bytes copy.now) (map string_bytes names.now) numbers.items) }
+{
     let mut numbers = Vec::new(alloc);
     let Some(last) = Path::new(copy.as_str()).file_name() else {
         return Ok(numbers);
@@ -180,14 +224,28 @@ fn numbers_in(alloc: Global, names: &[String], copy: &String) -> Result<Vec<u32>
 }
 
 // The number of a name that is another name, a dot and a number.
-fn number_of(name: &str, last: &str) -> Option<u32> {
+fn number_of(name: &str, last: &str) -> Option<u32>
+    ensures is { IfSome result (IsCopyName last.now name.now) }
+    ensures each { (number : ℕ) → IsCopyName last.now name.now number → result ≡ Some number }
+{
     let rest = name.strip_prefix(last)?;
     let digits = rest.strip_prefix('.')?;
-    if digits.len() > DIGITS || !digits.bytes().all(|byte| byte.is_ascii_digit()) {
-        return None;
-    }
-    if digits.starts_with('0') {
+    copy_number(digits)
+}
+
+// The number that one to nine digits write, of which the first is not 0.
+fn copy_number(digits: &str) -> Option<u32>
+    ensures is { IfSome result (IsCopyNumber digits.now) }
+    ensures each { (number : ℕ) → IsCopyNumber digits.now number → result ≡ Some number }
+{
+    if digits.len() > DIGITS || digits.starts_with('0') || !are_digits(digits) {
         return None;
     }
     digits.parse::<u32>().ok()
+}
+
+fn are_digits(text: &str) -> bool
+    ensures { Decides result (All IsAsciiDigit text.now) }
+{
+    text.bytes().all(|byte| byte.is_ascii_digit())
 }

@@ -10,7 +10,7 @@ returns-in-Ok-copy_as-clause-files g c = named_files g.D.Disk (string_bytes c.ar
 pub returns-in-Ok-copy_as-clause-backs_up : goal.returns-in-Ok-copy_as-clause-backs_up
 returns-in-Ok-copy_as-clause-backs_up g c = named_backs g.D.Disk (string_bytes c.args.file.now) (string_bytes c.args.copy.now) c.args.keep
     (string_bytes c.in-Ok-find_name.named.path) c.in-Ok-find_name.named.number _ _ _ _ c.in-Ok-find_name.ensures.named c.bring_to_rest.ensures
-    c.find_name.ensures.quiet c.in-Ok-copy_as.ensures.copies
+    c.in-Ok-find_name.ensures.next c.in-Ok-copy_as.ensures.copies
 
 pub returns-in-Err-copy_as-clause-files : goal.returns-in-Err-copy_as-clause-files
 returns-in-Err-copy_as-clause-files g c = named_files g.D.Disk (string_bytes c.args.file.now) (string_bytes c.args.copy.now) c.args.keep
