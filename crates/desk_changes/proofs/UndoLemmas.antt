@@ -29,12 +29,14 @@ use Rattle.tune_undo.specs.declared.old_entries.Part.{Part}
 use Rattle.tune_undo.specs.declared.old_entries.Step.{Step}
 use Rattle.tune_desk.specs.OldTexts.{Grows}
 use Rattle.desk_changes.specs.ChangedFiles.{Passage, IsChangedWithin}
+use Rattle.desk_changes.specs.Inside.Telling.{Tells, ToldBytes}
 use Rattle.desk_changes.specs.Inside.TriedUndoings.{FindsSteps, steps_of, TriesEntries, TriesChange, TriesTimes, TriesByBook, TriesWithin}
 use Rattle.desk_changes.specs.OldChanges.{BookChange, changes_of_steps, ReadsSteps}
 use Rattle.desk_changes.specs.TakenBack.{BeginsUndoing, IsAccepted, all_gone_by, entry_of_texts, gone_by}
 use Rattle.desk_changes.specs.TakenBack.{FindsUnchanged, KeepsOldTexts, RenumbersOne, UndoesEntry, UndoesEntries, UndoesChange}
 use Rattle.desk_changes.specs.TakenBack.{BreaksOffEntry, BreaksOffEntries, BreaksOffChange}
 use Rattle.desk_changes.proofs.BookLemmas.{EndsIn, split_at, split_more}
+use Rattle.desk_changes.proofs.TellingLemmas.{puts_more}
 use Rattle.desk_changes.specs.Undone.{GoesBack, UndoesLast, UndoesFewer, UsesBook, FindsNoBook}
 
 -- texts that are kept, where there are any
@@ -79,34 +81,45 @@ module _ {D : Type 0} (disks : disk.Ghosts D) where
 
   module _ (file : List ℕ) where
     -- entries behind a look
-    pub change_of : {A : Type 0} (change : BookChange) (result : Result Bool A) (start looked finish : Shelf D) (was now : List (DeskDeed D))
+    pub change_of : {A : Type 0} (change : BookChange) (told : ToldBytes) (result : Result Bool A) (start looked finish : Shelf D) (was now : List (DeskDeed D))
         → FindsUnchanged disks change start looked
-        → TriesEntries disks file change result (record { start = looked; finish = finish; was = was; now = now })
-        → TriesChange disks file change result (record { start = start; finish = finish; was = was; now = now })
-    change_of change (Ok some) start looked finish was now found undoes = (looked, found, undoes)
-    change_of change (Err why) start looked finish was now found breaks = inr (looked, found, breaks)
+        → TriesEntries disks file change told result (record { start = looked; finish = finish; was = was; now = now })
+        → TriesChange disks file change told result (record { start = start; finish = finish; was = was; now = now })
+    change_of change told (Ok some) start looked finish was now found undoes =
+        record { more = undoes.more; are = undoes.are; so = (looked, found, undoes.so) }
+    change_of change told (Err why) start looked finish was now found breaks = inr (looked, found, breaks)
 
     -- an entry before those that were undone, or broken off
-    pub entries_more : (some later : List Step) (step : Step) (of_later of_this is : Bool) (start mid finish : Shelf D) (was deeds now : List (DeskDeed D))
-        → some ≡ step ∷ later
-        → UndoesEntries disks file (steps_of later) of_later (record { start = start; finish = mid; was = was; now = deeds })
-        → UndoesEntry disks file (step_value step) of_this (record { start = mid; finish = finish; was = deeds; now = now })
+    pub entries_more : (some later : List Step) (step : Step) (of_later of_this is : Bool) (before between after : List ℕ)
+        (start mid finish : Shelf D) (was deeds now : List (DeskDeed D)) → some ≡ step ∷ later
+        → Tells (record { was = before; now = between })
+        (λ more. UndoesEntries disks file (steps_of later) of_later more (record { start = start; finish = mid; was = was; now = deeds }))
+        → Tells (record { was = between; now = after })
+        (λ more. UndoesEntry disks file (step_value step) of_this more (record { start = mid; finish = finish; was = deeds; now = now }))
         → is ≡ (of_later || of_this)
-        → UndoesEntries disks file (steps_of some) is (record { start = start; finish = finish; was = was; now = now })
-    entries_more some later step of_later of_this is start mid finish was deeds now e undone undoes so =
-        subst (λ (l : List Step). UndoesEntries disks file (steps_of l) is (record { start = start; finish = finish; was = was; now = now })) (sym e)
-        (mid, deeds, of_later, of_this, undone, undoes, so)
+        → Tells (record { was = before; now = after })
+        (λ more. UndoesEntries disks file (steps_of some) is more (record { start = start; finish = finish; was = was; now = now }))
+    entries_more some later step of_later of_this is before between after start mid finish was deeds now e undone undoes so =
+        let more = undone.more ++ undoes.more in
+        let course : Passage D = record { start = start; finish = finish; was = was; now = now } in
+        record {
+          more = more;
+          are = puts_more before between after undone.more undoes.more undone.are undoes.are;
+          so = subst (λ (l : List Step). UndoesEntries disks file (steps_of l) is more course) (sym e)
+              (mid, deeds, of_later, of_this, undone.more, undoes.more, undone.so, undoes.so, so, refl);
+        }
 
-    pub entries_broken : (changes later : List Step) (at : ℕ) (step : Step) (of_later : Bool) (start mid finish : Shelf D) (was deeds now : List (DeskDeed D))
-        → drop at changes ≡ step ∷ later
-        → UndoesEntries disks file (steps_of later) of_later (record { start = start; finish = mid; was = was; now = deeds })
+    pub entries_broken : (changes later : List Step) (at : ℕ) (step : Step) (of_later : Bool) (told : List ℕ) (start mid finish : Shelf D)
+        (was deeds now : List (DeskDeed D)) → drop at changes ≡ step ∷ later
+        → UndoesEntries disks file (steps_of later) of_later told (record { start = start; finish = mid; was = was; now = deeds })
         → BreaksOffEntry disks file step.entry.parts.items (record { start = mid; finish = finish; was = deeds; now = now })
         → BreaksOffEntries disks file (steps_of changes) (record { start = start; finish = finish; was = was; now = now })
-    entries_broken changes later at step of_later start mid finish was deeds now e undone breaks = (
+    entries_broken changes later at step of_later told start mid finish was deeds now e undone breaks = (
       steps_of (take at changes),
       step_value step,
       steps_of later,
       of_later,
+      told,
       mid,
       deeds,
       split_at changes at ∙ ap (λ (l : List Step). steps_of (take at changes) ++ steps_of l) e,
@@ -115,103 +128,125 @@ module _ {D : Type 0} (disks : disk.Ghosts D) where
     )
 
     -- what was undone so far, of some entries up to a place
-    pub record BackTo (changes : List Step) (left wanted count : ℕ) (course : Passage D) : Type 0 where
+    pub record BackTo (changes : List Step) (left wanted count : ℕ) (before after : List ℕ) (course : Passage D) : Type 0 where
       pub gone : List BookChange
       pub taken : ℕ
       pub split : changes_of_steps (steps_of changes) ≡ changes_of_steps (steps_of (take left changes)) ++ gone
       pub counted : taken + wanted ≡ count
-      pub back : GoesBack disks file gone taken course
+      pub told : Tells (record { was = before; now = after }) (λ more. GoesBack disks file gone taken more course)
 
     -- one more, in which there was something to be taken back, or not
-    pub one_taken : (changes : List Step) (left first wanted fewer count : ℕ) (change : BookChange)
+    pub one_taken : (changes : List Step) (left first wanted fewer count : ℕ) (change : BookChange) (before between after : List ℕ)
         (start mid finish : Shelf D) (was deeds now : List (DeskDeed D))
-        → BackTo changes left wanted count (record { start = start; finish = mid; was = was; now = deeds }) → EndsIn changes left first change
-        → fewer + 1 ≡ wanted → UndoesChange disks file change true (record { start = mid; finish = finish; was = deeds; now = now })
-        → BackTo changes first fewer count (record { start = start; finish = finish; was = was; now = now })
-    one_taken changes left first wanted fewer count change start mid finish was deeds now so ends less undoes = record {
+        → BackTo changes left wanted count before between (record { start = start; finish = mid; was = was; now = deeds }) → EndsIn changes left first change
+        → fewer + 1 ≡ wanted → Tells (record { was = between; now = after })
+        (λ more. UndoesChange disks file change true more (record { start = mid; finish = finish; was = deeds; now = now }))
+        → BackTo changes first fewer count before after (record { start = start; finish = finish; was = was; now = now })
+    one_taken changes left first wanted fewer count change before between after start mid finish was deeds now so ends less undoes = record {
       gone = change ∷ so.gone;
       taken = so.taken + 1;
       split = split_more changes left first change so.gone ends so.split;
       counted = let counted = so.counted in omega (arith, counted, less);
-      back = (mid, deeds, so.taken, true, so.back, undoes, refl);
+      told = record {
+        more = so.told.more ++ undoes.more;
+        are = puts_more before between after so.told.more undoes.more so.told.are undoes.are;
+        so = (mid, deeds, so.taken, true, so.told.more, undoes.more, so.told.so, undoes.so, refl, refl);
+      };
     }
 
-    pub one_passed : (changes : List Step) (left first wanted count : ℕ) (change : BookChange) (start mid finish : Shelf D) (was deeds now : List (DeskDeed D))
-        → BackTo changes left wanted count (record { start = start; finish = mid; was = was; now = deeds }) → EndsIn changes left first change
-        → UndoesChange disks file change false (record { start = mid; finish = finish; was = deeds; now = now })
-        → BackTo changes first wanted count (record { start = start; finish = finish; was = was; now = now })
-    one_passed changes left first wanted count change start mid finish was deeds now so ends undoes = record {
+    pub one_passed : (changes : List Step) (left first wanted count : ℕ) (change : BookChange) (before between after : List ℕ)
+        (start mid finish : Shelf D) (was deeds now : List (DeskDeed D))
+        → BackTo changes left wanted count before between (record { start = start; finish = mid; was = was; now = deeds }) → EndsIn changes left first change
+        → Tells (record { was = between; now = after })
+        (λ more. UndoesChange disks file change false more (record { start = mid; finish = finish; was = deeds; now = now }))
+        → BackTo changes first wanted count before after (record { start = start; finish = finish; was = was; now = now })
+    one_passed changes left first wanted count change before between after start mid finish was deeds now so ends undoes = record {
       gone = change ∷ so.gone;
       taken = so.taken;
       split = split_more changes left first change so.gone ends so.split;
       counted = so.counted;
-      back = (mid, deeds, so.taken, false, so.back, undoes, refl);
+      told = record {
+        more = so.told.more ++ undoes.more;
+        are = puts_more before between after so.told.more undoes.more so.told.are undoes.are;
+        so = (mid, deeds, so.taken, false, so.told.more, undoes.more, so.told.so, undoes.so, refl, refl);
+      };
     }
 
     -- none so far
-    pub back_none : (changes : List Step) (left count : ℕ) (here : Shelf D) (was : List (DeskDeed D)) → take left changes ≡ changes
-        → BackTo changes left count count (record { start = here; finish = here; was = was; now = was })
-    back_none changes left count here was all = record {
+    pub back_none : (changes : List Step) (left count : ℕ) (told : List ℕ) (here : Shelf D) (was : List (DeskDeed D)) → take left changes ≡ changes
+        → BackTo changes left count count told told (record { start = here; finish = here; was = was; now = was })
+    back_none changes left count told here was all = record {
       gone = [];
       taken = 0;
       split = ap (λ some. changes_of_steps (steps_of some)) (sym all) ∙ sym (append-nil (changes_of_steps (steps_of (take left changes))));
       counted = omega arith;
-      back = (refl, (refl, refl));
+      told = record { more = []; are = sym (append-nil told); so = (refl, refl, (refl, refl)) };
     }
 
     -- all that were wanted
-    pub last_undone : (changes : List Step) (left wanted count : ℕ) (course : Passage D) → BackTo changes left wanted count course → wanted ≡ 0
-        → UndoesLast disks file count (steps_of changes) course
-    last_undone changes left wanted count course so none = record {
-      earlier = changes_of_steps (steps_of (take left changes));
-      gone = so.gone;
-      split = so.split;
-      back = let counted = so.counted in
-          let all : so.taken ≡ count = omega (arith, counted, none) in
-          subst (λ (n : ℕ). GoesBack disks file so.gone n course) all so.back;
+    pub last_undone : (changes : List Step) (left wanted count : ℕ) (before after : List ℕ) (course : Passage D)
+        → BackTo changes left wanted count before after course → wanted ≡ 0
+        → Tells (record { was = before; now = after }) (λ more. UndoesLast disks file count more (steps_of changes) course)
+    last_undone changes left wanted count before after course so none = record {
+      more = so.told.more;
+      are = so.told.are;
+      so = record {
+        earlier = changes_of_steps (steps_of (take left changes));
+        gone = so.gone;
+        split = so.split;
+        back = let counted = so.counted in
+            let all : so.taken ≡ count = omega (arith, counted, none) in
+            subst (λ (n : ℕ). GoesBack disks file so.gone n so.told.more course) all so.told.so;
+      };
     }
 
     -- none is left, but more were wanted
-    pub none_left : (changes : List Step) (left wanted count : ℕ) (start finish : Shelf D) (was now : List (DeskDeed D))
-        → BackTo changes left wanted count (record { start = start; finish = finish; was = was; now = now }) → 0 < wanted → left ≡ 0
+    pub none_left : (changes : List Step) (left wanted count : ℕ) (before after : List ℕ) (start finish : Shelf D) (was now : List (DeskDeed D))
+        → BackTo changes left wanted count before after (record { start = start; finish = finish; was = was; now = now }) → 0 < wanted → left ≡ 0
         → UndoesFewer disks file count (steps_of changes) (record { start = start; finish = finish; was = was; now = now })
-    none_left changes left wanted count start finish was now so more none = record {
+    none_left changes left wanted count before after start finish was now so more none = record {
       earlier = changes_of_steps (steps_of (take left changes));
       gone = so.gone;
       split = so.split;
       taken = so.taken;
       fewer = let counted = so.counted in omega (arith, counted, more);
+      told = so.told.more;
       mid = finish;
       deeds = now;
-      back = so.back;
+      back = so.told.so;
       ends = inl (ap (λ (n : ℕ). changes_of_steps (steps_of (take n changes))) none, (refl, refl));
     }
 
     -- the next one was broken off
-    pub next_broken : (changes : List Step) (left first wanted count : ℕ) (change : BookChange) (start mid finish : Shelf D) (was deeds now : List (DeskDeed D))
-        → BackTo changes left wanted count (record { start = start; finish = mid; was = was; now = deeds }) → EndsIn changes left first change → 0 < wanted
-        → BreaksOffChange disks file change (record { start = mid; finish = finish; was = deeds; now = now })
+    pub next_broken : (changes : List Step) (left first wanted count : ℕ) (change : BookChange) (before between : List ℕ)
+        (start mid finish : Shelf D) (was deeds now : List (DeskDeed D))
+        → BackTo changes left wanted count before between (record { start = start; finish = mid; was = was; now = deeds }) → EndsIn changes left first change
+        → 0 < wanted → BreaksOffChange disks file change (record { start = mid; finish = finish; was = deeds; now = now })
         → UndoesFewer disks file count (steps_of changes) (record { start = start; finish = finish; was = was; now = now })
-    next_broken changes left first wanted count change start mid finish was deeds now so ends more breaks = record {
+    next_broken changes left first wanted count change before between start mid finish was deeds now so ends more breaks = record {
       earlier = changes_of_steps (steps_of (take left changes));
       gone = so.gone;
       split = so.split;
       taken = so.taken;
       fewer = let counted = so.counted in omega (arith, counted, more);
+      told = so.told.more;
       mid = mid;
       deeds = deeds;
-      back = so.back;
+      back = so.told.so;
       ends = inr (changes_of_steps (steps_of (take first changes)), change, ends, breaks);
     }
 
     -- behind the reading of the book
-    pub book_then : {A : Type 0} (count : ℕ) (steps : List StepValue) (result : Result (Unit {0}) A) (start finish : Shelf D)
+    pub book_then : {A : Type 0} (count : ℕ) (told : ToldBytes) (steps : List StepValue) (result : Result (Unit {0}) A) (start finish : Shelf D)
         (was began now : List (DeskDeed D)) → ReadsSteps file steps was began
-        → TriesTimes disks file count steps result (record { start = start; finish = finish; was = began; now = now })
-        → TriesByBook disks file count result (record { start = start; finish = finish; was = was; now = now })
-    book_then count steps (Ok done) start finish was began now reads undoes =
-        record { steps = steps; began = began; reads = reads; does = undoes }
-    book_then count steps (Err why) start finish was began now reads fewer =
+        → TriesTimes disks file (record { count = count; told = told }) steps result (record { start = start; finish = finish; was = began; now = now })
+        → TriesByBook disks file count told result (record { start = start; finish = finish; was = was; now = now })
+    book_then count told steps (Ok done) start finish was began now reads undoes = record {
+      more = undoes.more;
+      are = undoes.are;
+      so = record { steps = steps; began = began; reads = reads; does = undoes.so };
+    }
+    book_then count told steps (Err why) start finish was began now reads fewer =
         inr (record { steps = steps; began = began; reads = reads; does = fewer })
 
     -- FILE around it
@@ -234,12 +269,16 @@ module _ {D : Type 0} (disks : disk.Ghosts D) where
       does = does;
     }
 
-    pub within_file : {A : Type 0} (count : ℕ) (result : Result (Unit {0}) A) (old new : D) (course : Passage D) (was now : List (DeskDeed D))
-        → Around old new course was now → TriesByBook disks file count result course → TriesWithin disks file count result was now
-    within_file count (Ok done) old new course was now around undoes =
-        changed (UsesBook file (UndoesLast disks file count)) old new course was now around undoes
-    within_file count (Err why) old new course was now around (inl none) = inr (inl (changed FindsNoBook old new course was now around none))
-    within_file count (Err why) old new course was now around (inr fewer) =
+    pub within_file : {A : Type 0} (count : ℕ) (told : ToldBytes) (result : Result (Unit {0}) A) (old new : D) (course : Passage D)
+        (was now : List (DeskDeed D)) → Around old new course was now → TriesByBook disks file count told result course
+        → TriesWithin disks file count told result (record { was = was; now = now })
+    within_file count told (Ok done) old new course was now around undoes = record {
+      more = undoes.more;
+      are = undoes.are;
+      so = changed (UsesBook file (UndoesLast disks file count undoes.more)) old new course was now around undoes.so;
+    }
+    within_file count told (Err why) old new course was now around (inl none) = inr (inl (changed FindsNoBook old new course was now around none))
+    within_file count told (Err why) old new course was now around (inr fewer) =
         inr (inr (changed (UsesBook file (UndoesFewer disks file count)) old new course was now around fewer))
 
 -- what was read changed nothing

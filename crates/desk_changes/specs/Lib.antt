@@ -7,4 +7,5 @@ pub mod OldChanges
 pub mod ReplacedTunes
 pub mod TakenBack
 pub mod ToldChanges
+pub mod ToldUndoings
 pub mod Undone

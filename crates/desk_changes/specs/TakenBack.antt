@@ -33,6 +33,7 @@ use Rattle.tune_desk.specs.DeskDeeds.{DeskDeed}
 use Rattle.tune_desk.specs.OldTexts.{Grows, GrowsNot}
 use Rattle.desk_changes.specs.ChangedFiles.{Passage}
 use Rattle.desk_changes.specs.OldChanges.{BookChange}
+use Rattle.desk_changes.specs.ToldUndoings.{undone_bytes}
 
 -- nothing was done
 abbrev pub IsStill : {D : Type 0} → Passage D → Type 0
@@ -121,20 +122,21 @@ abbrev pub aims_by : List Part → List Aim
 aims_by parts = map aim_by parts
 
 -- Each part was brought to what it was, the last first; then the mark was put that the entry is
--- undone; then questions were asked.
-pub record BringsBack {D : Type 0} (disks : disk.Ghosts D) (file : List ℕ) (parts : List Part)
-    (course : Passage D) : Type 0 where
+-- undone; then it was told, of the archive that this made, which was asked questions alone.
+pub record BringsBack {D : Type 0} (disks : disk.Ghosts D) (file : List ℕ) (entry : EntryValue)
+    (told : List ℕ) (course : Passage D) : Type 0 where
   pub last : Shelf D
   pub carried : Carries {T = Unit {0}} (store_on disks) course.start last
-      (aimed_back (aims_by parts) (state_of disks.state course.start)) (Ok tt)
+      (aimed_back (aims_by entry.parts) (state_of disks.state course.start)) (Ok tt)
   pub marked : Grows file (mark_bytes Undone) course.was course.now
   pub asked : IsOnlyAsked (store_on disks) last course.finish
+  pub tells : Stood (store_on disks) last course.finish (λ state. told ≡ undone_bytes entry state)
 
 -- An entry was taken back: it was judged first, by questions alone, and none of its parts was
 -- changed meanwhile; the texts that go were kept, and the undoing was begun; then each part was
--- brought to what it was, and the mark was put.
+-- brought to what it was, the mark was put, and these bytes were told.
 pub record TakesEntryBack {D : Type 0} (disks : disk.Ghosts D) (file : List ℕ) (step : StepValue)
-    (course : Passage D) : Type 0 where
+    (told : List ℕ) (course : Passage D) : Type 0 where
   pub judged : Shelf D
   pub kept : Shelf D
   pub ready : Shelf D
@@ -146,7 +148,7 @@ pub record TakesEntryBack {D : Type 0} (disks : disk.Ghosts D) (file : List ℕ)
       (record { start = judged; finish = kept; was = course.was; now = was_kept })
   pub begins : BeginsUndoing disks file step.begun
       (record { start = kept; finish = ready; was = was_kept; now = was_begun })
-  pub brings : BringsBack disks file step.entry.parts
+  pub brings : BringsBack disks file step.entry told
       (record course { start = ready; was = was_begun })
 
 -- An entry was found as it was before the change, by questions alone, and no undoing of it was
@@ -159,11 +161,12 @@ pub record FindsAsBefore {D : Type 0} (disks : disk.Ghosts D) (file : List ℕ) 
       (λ state. verdict_on step.entry.parts state ≡ Before)
   pub marked : Grows file (mark_bytes Undone) course.was course.now
 
--- whether there was something to be taken back
-abbrev pub UndoesEntry : {D : Type 0} → disk.Ghosts D → List ℕ → StepValue → Bool → Passage D
-    → Type 0
-UndoesEntry disks file step true course = TakesEntryBack disks file step course
-UndoesEntry disks file step false course = FindsAsBefore disks file step course
+-- whether there was something to be taken back, and what was told of it
+abbrev pub UndoesEntry : {D : Type 0} → disk.Ghosts D → List ℕ → StepValue → Bool → List ℕ
+    → Passage D → Type 0
+UndoesEntry disks file step true told course = TakesEntryBack disks file step told course
+UndoesEntry disks file step false told course =
+    (told ≡ []) × FindsAsBefore disks file step course
 
 -- The book of old texts grew by one entry of texts at most, or by one mark at most.
 abbrev pub KeepsTextsOrNot : {D : Type 0} → List ℕ → List (DeskDeed D) → List (DeskDeed D)
@@ -212,15 +215,18 @@ pub record BreaksOffEntry {D : Type 0} (disks : disk.Ghosts D) (file : List ℕ)
   pub told : IsOnlyAsked (store_on disks) last course.finish
 
 -- ONE CHANGE
--- Its entries were undone, the last one first; whether there was something to be taken back.
-abbrev pub UndoesEntries : {D : Type 0} → disk.Ghosts D → List ℕ → BookChange → Bool → Passage D
-    → Type 0
-UndoesEntries disks file [] some course = (some ≡ false) × IsStill course
-UndoesEntries {D} disks file (step ∷ later) some course =
+-- Its entries were undone, the last one first; whether there was something to be taken back, and
+-- what was told of them, one after another.
+abbrev pub UndoesEntries : {D : Type 0} → disk.Ghosts D → List ℕ → BookChange → Bool → List ℕ
+    → Passage D → Type 0
+UndoesEntries disks file [] some told course = (some ≡ false) × (told ≡ []) × IsStill course
+UndoesEntries {D} disks file (step ∷ later) some told course =
     (mid : Shelf D) × (deeds : List (DeskDeed D)) × (of_later : Bool) × (of_this : Bool)
-    × UndoesEntries disks file later of_later (record course { finish = mid; now = deeds })
-    × UndoesEntry disks file step of_this (record course { start = mid; was = deeds })
-    × (some ≡ (of_later || of_this))
+    × (told_later : List ℕ) × (told_this : List ℕ)
+    × UndoesEntries disks file later of_later told_later
+    (record course { finish = mid; now = deeds })
+    × UndoesEntry disks file step of_this told_this (record course { start = mid; was = deeds })
+    × (some ≡ (of_later || of_this)) × (told ≡ told_later ++ told_this)
 
 -- FILE was asked first, for every entry of it, and no part was changed meanwhile.
 pub record FindsUnchanged {D : Type 0} (disks : disk.Ghosts D) (change : BookChange)
@@ -229,19 +235,20 @@ pub record FindsUnchanged {D : Type 0} (disks : disk.Ghosts D) (change : BookCha
   pub stood : Stood (store_on disks) start finish (AreUnchanged change)
 
 -- A change was undone: it was found unchanged, and then its entries were undone.
-abbrev pub UndoesChange : {D : Type 0} → disk.Ghosts D → List ℕ → BookChange → Bool → Passage D
-    → Type 0
-UndoesChange {D} disks file change some course = (looked : Shelf D)
+abbrev pub UndoesChange : {D : Type 0} → disk.Ghosts D → List ℕ → BookChange → Bool → List ℕ
+    → Passage D → Type 0
+UndoesChange {D} disks file change some told course = (looked : Shelf D)
     × FindsUnchanged disks change course.start looked
-    × UndoesEntries disks file change some (record course { start = looked })
+    × UndoesEntries disks file change some told (record course { start = looked })
 
 -- Its entries were undone from the last one on, and then one was broken off.
 abbrev pub BreaksOffEntries : {D : Type 0} → disk.Ghosts D → List ℕ → BookChange → Passage D
     → Type 0
 BreaksOffEntries {D} disks file change course =
     (earlier : BookChange) × (step : StepValue) × (later : BookChange) × (some : Bool)
-    × (mid : Shelf D) × (deeds : List (DeskDeed D)) × (change ≡ earlier ++ step ∷ later)
-    × UndoesEntries disks file later some (record course { finish = mid; now = deeds })
+    × (told : List ℕ) × (mid : Shelf D) × (deeds : List (DeskDeed D))
+    × (change ≡ earlier ++ step ∷ later)
+    × UndoesEntries disks file later some told (record course { finish = mid; now = deeds })
     × BreaksOffEntry disks file step.entry.parts (record course { start = mid; was = deeds })
 
 -- A change was not undone: FILE was asked, and nothing else was done, as where a part was changed

@@ -17,24 +17,25 @@ use Rattle.desk_changes.specs.ToldChanges.{ListsChanges}
 use Rattle.desk_changes.specs.OldChanges.{BookChange, changes_of_steps, ReadsSteps}
 use Rattle.desk_changes.specs.TakenBack.{IsStill, UndoesChange, BreaksOffChange}
 
--- These changes were undone, the last one first, and in so many of them there was something to be
--- taken back.
-abbrev pub GoesBack : {D : Type 0} → disk.Ghosts D → List ℕ → List BookChange → ℕ → Passage D
-    → Type 0
-GoesBack disks file [] taken course = (taken ≡ 0) × IsStill course
-GoesBack {D} disks file (change ∷ later) taken course =
+-- These changes were undone, the last one first, in so many of them there was something to be taken
+-- back, and this was told of them, one after another.
+abbrev pub GoesBack : {D : Type 0} → disk.Ghosts D → List ℕ → List BookChange → ℕ → List ℕ
+    → Passage D → Type 0
+GoesBack disks file [] taken told course = (taken ≡ 0) × (told ≡ []) × IsStill course
+GoesBack {D} disks file (change ∷ later) taken told course =
     (mid : Shelf D) × (deeds : List (DeskDeed D)) × (before : ℕ) × (some : Bool)
-    × GoesBack disks file later before (record course { finish = mid; now = deeds })
-    × UndoesChange disks file change some (record course { start = mid; was = deeds })
-    × (taken ≡ (if some then before + 1 else before))
+    × (told_later : List ℕ) × (told_this : List ℕ)
+    × GoesBack disks file later before told_later (record course { finish = mid; now = deeds })
+    × UndoesChange disks file change some told_this (record course { start = mid; was = deeds })
+    × (taken ≡ (if some then before + 1 else before)) × (told ≡ told_later ++ told_this)
 
 -- Of the changes of these entries the last were undone, until so many were taken back.
 pub record UndoesLast {D : Type 0} (disks : disk.Ghosts D) (file : List ℕ) (count : ℕ)
-    (steps : List StepValue) (course : Passage D) : Type 0 where
+    (told : List ℕ) (steps : List StepValue) (course : Passage D) : Type 0 where
   pub earlier : List BookChange
   pub gone : List BookChange
   pub split : changes_of_steps steps ≡ earlier ++ gone
-  pub back : GoesBack disks file gone count course
+  pub back : GoesBack disks file gone count told course
 
 -- What ended an undoing before: no change was left; or the last one that was left was not undone.
 abbrev pub EndsBefore : {D : Type 0} → disk.Ghosts D → List ℕ → List BookChange → Passage D
@@ -52,9 +53,10 @@ pub record UndoesFewer {D : Type 0} (disks : disk.Ghosts D) (file : List ℕ) (c
   pub split : changes_of_steps steps ≡ earlier ++ gone
   pub taken : ℕ
   pub fewer : taken < count
+  pub told : List ℕ
   pub mid : Shelf D
   pub deeds : List (DeskDeed D)
-  pub back : GoesBack disks file gone taken (record course { finish = mid; now = deeds })
+  pub back : GoesBack disks file gone taken told (record course { finish = mid; now = deeds })
   pub ends : EndsBefore disks file earlier (record course { start = mid; was = deeds })
 
 -- The book of old texts was read, and this was done with the entries that stand in it.
@@ -69,12 +71,14 @@ pub record UsesBook {D : Type 0} (file : List ℕ) (Does : List StepValue → Pa
 abbrev pub FindsNoBook : {D : Type 0} → Passage D → Type 0
 FindsNoBook course = (course.finish ≡ course.start) × IsQuiet course.was course.now
 
--- FILE was opened to change, and so many changes were taken back, which was told; or the status
--- says that they were not.
+-- FILE was opened to change, so many changes were taken back, and what was told of them is printed;
+-- or the status says that they were not.
 abbrev pub UndoesFile : {D : Type 0} → disk.Ghosts D → List ℕ → ℕ → Scene D → Type 0
 UndoesFile disks file count scene =
-    (IsChangedWithin disks file (UsesBook file (UndoesLast disks file count)) scene.was scene.now
-    × ((told : List ℕ) × Prints scene.streams told scene.status))
+    ((told : List ℕ)
+    × IsChangedWithin disks file (UsesBook file (UndoesLast disks file count told))
+    scene.was scene.now
+    × Prints scene.streams told scene.status)
     ⊎ ((scene.status ≢ 0) × (Did scene.was scene.now (Visits disks file Change)
     ⊎ (IsChangedWithin disks file FindsNoBook scene.was scene.now
     ⊎ IsChangedWithin disks file (UsesBook file (UndoesFewer disks file count))

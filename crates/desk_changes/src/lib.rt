@@ -11,6 +11,7 @@ mod laws;
 mod one_tune_books;
 mod replacing;
 mod taking_back;
+mod telling;
 mod turning;
 mod undone;
 mod words;

@@ -10,7 +10,7 @@ ghost use Rattle.tune_changes.specs.declared.judging.Verdict.TheVariants.{Before
 ghost use Rattle.tune_desk.specs.declared.desk.DeskFault.TheVariants.{Missing};
 ghost use Rattle.tune_desk.specs.Results.{SparesFiles, result_places};
 ghost use Rattle.tune_scripts.specs.Streams.{streams_in};
-ghost use Rattle.tune_undo.specs.OldEntries.{step_value};
+ghost use Rattle.tune_undo.specs.OldEntries.{entry_value, step_value};
 ghost use Rattle.desk_scenes.specs.Scenes.{IsQuiet};
 ghost use Rattle.desk_changes.specs.Inside.HeldTunes.{holds_back};
 ghost use Rattle.desk_changes.specs.Inside.TriedUndoings.{AreStanding, EndsFrom, FindsSteps};
@@ -29,7 +29,8 @@ ghost use Rattle.desk_changes.specs.Inside.Works.{WorksBeside};
 
 use crate::change_lists::list_changes;
 use crate::held_tunes::spare_held;
-use crate::undone::{greatest_number, number_stray, restore, taken_by, tell_undone};
+use crate::telling::tell_undone;
+use crate::undone::{greatest_number, number_stray, restore, taken_by};
 use crate::words::{NotUndone, say_not_undone};
 use abc_fields::ByteText;
 use desk_scenes::{keep_entry, keep_mark, open_once, print};
@@ -102,8 +103,9 @@ fn undo_in_file<D: Disk, K: AllocGlobal + Desk<Disk = D>>(
 ) -> Result<(), NotUndone>
     ensures files { SparesFiles (result_places (string_bytes file.now) None false)
         (K.deeds desk.old) (K.deeds desk.new) }
-    ensures undoes { TriesWithin D.Disk (string_bytes file.now) count result
-        (K.deeds desk.old) (K.deeds desk.new) }
+    ensures undoes { TriesWithin D.Disk (string_bytes file.now) count
+        (record { was = told.old.items; now = told.new.items }) result
+        (record { was = K.deeds desk.old; now = K.deeds desk.new }) }
 {
     match open_once(desk, file, Access::Change) {
         Err(why) => Err(NotUndone::Unopened(why)),
@@ -128,12 +130,14 @@ fn undo_in_archive<D: Disk, K: AllocGlobal + Desk<Disk = D>>(
       was = K.deeds desk.old;
       now = K.deeds desk.new;
     }) }
-    ensures undoes { TriesByBook D.Disk (string_bytes file.now) count result (record {
-      start = archive.old;
-      finish = archive.new;
-      was = K.deeds desk.old;
-      now = K.deeds desk.new;
-    }) }
+    ensures undoes { TriesByBook D.Disk (string_bytes file.now) count
+        (record { was = told.old.items; now = told.new.items }) result
+        (record {
+          start = archive.old;
+          finish = archive.new;
+          was = K.deeds desk.old;
+          now = K.deeds desk.new;
+        }) }
 {
     let changes = read_changes(desk, file)?;
     undo_times(desk, file, archive, changes.as_slice(), count, told)
@@ -196,7 +200,12 @@ fn undo_times<D: Disk, K: AllocGlobal + Desk<Disk = D>>(
       was = K.deeds desk.old;
       now = K.deeds desk.new;
     }) }
-    ensures undoes { TriesTimes D.Disk (string_bytes file.now) count (steps_of changes.now) result
+    ensures undoes { TriesTimes D.Disk (string_bytes file.now)
+        (record {
+          count = count;
+          told = record { was = told.old.items; now = told.new.items };
+        })
+        (steps_of changes.now) result
         (record {
           start = archive.old;
           finish = archive.new;
@@ -257,7 +266,8 @@ fn undo_change<D: Disk, K: AllocGlobal + Desk<Disk = D>>(
       was = K.deeds desk.old;
       now = K.deeds desk.new;
     }) }
-    ensures undoes { TriesChange D.Disk (string_bytes file.now) (steps_of changes.now) result
+    ensures undoes { TriesChange D.Disk (string_bytes file.now) (steps_of changes.now)
+        (record { was = told.old.items; now = told.new.items }) result
         (record {
           start = archive.old;
           finish = archive.new;
@@ -322,7 +332,8 @@ fn undo_entries<D: Disk, K: AllocGlobal + Desk<Disk = D>>(
       was = K.deeds desk.old;
       now = K.deeds desk.new;
     }) }
-    ensures undoes { TriesEntries D.Disk (string_bytes file.now) (steps_of changes.now) result
+    ensures undoes { TriesEntries D.Disk (string_bytes file.now) (steps_of changes.now)
+        (record { was = told.old.items; now = told.new.items }) result
         (record {
           start = archive.old;
           finish = archive.new;
@@ -360,7 +371,8 @@ fn undo_entry<D: Disk, K: AllocGlobal + Desk<Disk = D>>(
       was = K.deeds desk.old;
       now = K.deeds desk.new;
     }) }
-    ensures undoes { TriesEntry D.Disk (string_bytes file.now) (step_value change.now) result
+    ensures undoes { TriesEntry D.Disk (string_bytes file.now) (step_value change.now)
+        (record { was = told.old.items; now = told.new.items }) result
         (record {
           start = archive.old;
           finish = archive.new;
@@ -468,8 +480,9 @@ fn finish_undoing<D: Disk, K: AllocGlobal + Desk<Disk = D>>(
       was = K.deeds desk.old;
       now = K.deeds desk.new;
     }) }
-    ensures finishes { FinishesEntry D.Disk (string_bytes file.now) entry.now.parts.items
-        result (record {
+    ensures finishes { FinishesEntry D.Disk (string_bytes file.now) (entry_value entry.now)
+        (record { was = told.old.items; now = told.new.items }) result
+        (record {
           start = archive.old;
           finish = archive.new;
           was = K.deeds desk.old;

@@ -1,4 +1,4 @@
-// What an undoing takes away, what it brings back, and how that is told.
+// What an undoing takes away, and what it brings back.
 ghost use Rattle.std.specs.Prelude.{◌≡◌, ◌++◌, IfOk, OnOk, Ok, [], ◌∷◌};
 ghost use Rattle.std.specs.Option.{option_to_list};
 ghost use Rattle.tune_asking.specs.Asking.{IsOnlyAsked};
@@ -13,10 +13,8 @@ ghost use Rattle.desk_changes.specs.TakenBack.{entry_of_texts, is_text, IsAccept
 ghost use Rattle.desk_changes.specs.TakenBack.{Stood};
 ghost use Rattle.desk_changes.specs.Inside.Works.{Works};
 
-use crate::words::NotUndone;
 use abc_fields::TuneText;
 use std::alloc::{AllocError, Global};
-use std::io::Write;
 use tune_archive::Archive;
 use tune_asking::tune_of;
 use tune_changes::{Aim, take_back};
@@ -258,116 +256,4 @@ fn has_number(entry: &Entry, other: u32) -> bool {
         }
     }
     false
-}
-
-/// Tells what an undoing brought back.
-pub(crate) fn tell_undone<S: TuneStore>(
-    store: &mut S,
-    entry: &Entry,
-    told: &mut Vec<u8>,
-) -> Result<(), NotUndone>
-    ensures { IsOnlyAsked S.TuneStore store.old store.new }
-{
-    match entry.kind {
-        EntryKind::Add | EntryKind::AddMore => tell_added(entry, told)?,
-        EntryKind::Replace => tell_replaced(store, entry, told)?,
-        EntryKind::Load => tell_loaded(entry, told)?,
-        _ => tell_parts(entry, told)?,
-    }
-    Ok(())
-}
-
-// The tunes that were added, and are out again.
-fn tell_added(entry: &Entry, told: &mut Vec<u8>) -> Result<(), AllocError> {
-    match (
-        entry.parts.as_slice().first(),
-        entry.parts.as_slice().last(),
-    ) {
-        (Some(Part::Tune { number: first, .. }), Some(Part::Tune { number: last, .. })) => {
-            tell_out(*first, *last, told)
-        }
-        _ => Ok(()),
-    }
-}
-
-// The set lists of a load, which are gone again, and its tunes, which are out again.
-fn tell_loaded(entry: &Entry, told: &mut Vec<u8>) -> Result<(), AllocError> {
-    let mut first = 0;
-    let mut last = 0;
-    for part in entry.parts.as_slice() {
-        if let Part::Tune { number, .. } = part {
-            first = if first == 0 { *number } else { first };
-            last = *number;
-        } else {
-            tell_part(part, told)?;
-        }
-    }
-    if last == 0 {
-        return Ok(());
-    }
-    tell_out(first, last, told)
-}
-
-fn tell_out(first: u32, last: u32, told: &mut Vec<u8>) -> Result<(), AllocError> {
-    if first == last {
-        write!(told, "tune {first} is out again\n").map_err(|_| AllocError)
-    } else {
-        write!(told, "tunes {first} to {last} are out again\n").map_err(|_| AllocError)
-    }
-}
-
-// The tune that has its text again, under another revision.
-fn tell_replaced<S: TuneStore>(
-    store: &mut S,
-    entry: &Entry,
-    told: &mut Vec<u8>,
-) -> Result<(), NotUndone>
-    ensures { IsOnlyAsked S.TuneStore store.old store.new }
-{
-    for part in entry.parts.as_slice() {
-        tell_revision(store, part, told)?;
-    }
-    Ok(())
-}
-
-fn tell_revision<S: TuneStore>(
-    store: &mut S,
-    part: &Part,
-    told: &mut Vec<u8>,
-) -> Result<(), NotUndone>
-    ensures { IsOnlyAsked S.TuneStore store.old store.new }
-{
-    match part {
-        Part::Tune { number, .. } => {
-            let tune = tune_of(store, *number)?;
-            Ok(put_revision(tune.number, tune.revision, told)?)
-        }
-        Part::Set { .. } => Ok(()),
-    }
-}
-
-fn put_revision(number: u32, revision: u16, told: &mut Vec<u8>) -> Result<(), AllocError> {
-    write!(told, "tune {number} has revision {revision} now\n").map_err(|_| AllocError)
-}
-
-fn tell_parts(entry: &Entry, told: &mut Vec<u8>) -> Result<(), AllocError> {
-    for part in entry.parts.as_slice() {
-        tell_part(part, told)?;
-    }
-    Ok(())
-}
-
-fn tell_part(part: &Part, told: &mut Vec<u8>) -> Result<(), AllocError> {
-    match part {
-        Part::Tune { number, .. } => {
-            write!(told, "tune {number} is there again\n").map_err(|_| AllocError)
-        }
-        Part::Set { name, was, is: _ } => {
-            told.extend_from_slice(name.as_slice())?;
-            match was {
-                Some(_) => told.extend_from_slice(b" is as it was\n"),
-                None => told.extend_from_slice(b" is gone again\n"),
-            }
-        }
-    }
 }

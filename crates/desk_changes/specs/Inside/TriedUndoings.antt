@@ -6,9 +6,8 @@ use Rattle.tune_disk.specs.declared.file.Access.TheVariants.{Change}
 use Rattle.tune_archive.specs.AsStore.{store_on}
 use Rattle.tune_archive.specs.Shelf.{Shelf}
 use Rattle.tune_asking.specs.Asking.{IsOnlyAsked}
-use Rattle.tune_desk.specs.DeskDeeds.{DeskDeed}
 use Rattle.tune_desk.specs.declared.desk.DeskFault.{DeskFault}
-use Rattle.tune_undo.specs.OldEntries.{StepValue, step_value}
+use Rattle.tune_undo.specs.OldEntries.{EntryValue, StepValue, step_value}
 use Rattle.tune_undo.specs.OldItems.{Item, Top, IsItemLog, standing}
 use Rattle.tune_undo.specs.OldTextLaws.{made_ready}
 use Rattle.tune_undo.specs.declared.old_entries.Part.{Part}
@@ -20,6 +19,8 @@ use Rattle.desk_changes.specs.OldChanges.{BookChange, changes_of_steps}
 use Rattle.desk_changes.specs.TakenBack.{BringsBack, BringsSome, UndoesEntry, BreaksOffEntry}
 use Rattle.desk_changes.specs.TakenBack.{UndoesEntries, BreaksOffEntries, UndoesChange}
 use Rattle.desk_changes.specs.TakenBack.{BreaksOffChange}
+use Rattle.desk_changes.specs.Inside.Telling.{Tells, ToldBytes}
+use Rattle.desk_changes.specs.Inside.Turning.{Stretch}
 use Rattle.desk_changes.specs.Undone.{UndoesLast, UndoesFewer, UsesBook, FindsNoBook}
 
 -- entries, wherever they lie in memory
@@ -49,46 +50,53 @@ pub record FinishesSome {D : Type 0} (disks : disk.Ghosts D) (file : List ℕ) (
   pub brings : BringsSome disks file parts last course
   pub asked : IsOnlyAsked (store_on disks) last course.finish
 
-abbrev pub FinishesEntry : {D A : Type 0} → disk.Ghosts D → List ℕ → List Part
+abbrev pub FinishesEntry : {D A : Type 0} → disk.Ghosts D → List ℕ → EntryValue → ToldBytes
     → Result (Unit {0}) A → Passage D → Type 0
-FinishesEntry disks file parts result course = MatchResult result
-    (λ _. BringsBack disks file parts course)
-    (λ _. FinishesSome disks file parts course)
+FinishesEntry disks file entry told result course = MatchResult result
+    (λ _. Tells told (λ more. BringsBack disks file entry more course))
+    (λ _. FinishesSome disks file entry.parts course)
 
-abbrev pub TriesEntry : {D A : Type 0} → disk.Ghosts D → List ℕ → StepValue → Result Bool A
-    → Passage D → Type 0
-TriesEntry disks file step result course = MatchResult result
-    (λ some. UndoesEntry disks file step some course)
+abbrev pub TriesEntry : {D A : Type 0} → disk.Ghosts D → List ℕ → StepValue → ToldBytes
+    → Result Bool A → Passage D → Type 0
+TriesEntry disks file step told result course = MatchResult result
+    (λ some. Tells told (λ more. UndoesEntry disks file step some more course))
     (λ _. BreaksOffEntry disks file step.entry.parts course)
 
-abbrev pub TriesEntries : {D A : Type 0} → disk.Ghosts D → List ℕ → BookChange → Result Bool A
-    → Passage D → Type 0
-TriesEntries disks file change result course = MatchResult result
-    (λ some. UndoesEntries disks file change some course)
+abbrev pub TriesEntries : {D A : Type 0} → disk.Ghosts D → List ℕ → BookChange → ToldBytes
+    → Result Bool A → Passage D → Type 0
+TriesEntries disks file change told result course = MatchResult result
+    (λ some. Tells told (λ more. UndoesEntries disks file change some more course))
     (λ _. BreaksOffEntries disks file change course)
 
-abbrev pub TriesChange : {D A : Type 0} → disk.Ghosts D → List ℕ → BookChange → Result Bool A
-    → Passage D → Type 0
-TriesChange disks file change result course = MatchResult result
-    (λ some. UndoesChange disks file change some course)
+abbrev pub TriesChange : {D A : Type 0} → disk.Ghosts D → List ℕ → BookChange → ToldBytes
+    → Result Bool A → Passage D → Type 0
+TriesChange disks file change told result course = MatchResult result
+    (λ some. Tells told (λ more. UndoesChange disks file change some more course))
     (λ _. BreaksOffChange disks file change course)
 
-abbrev pub TriesTimes : {D A : Type 0} → disk.Ghosts D → List ℕ → ℕ → List StepValue
-    → Result (Unit {0}) A → Passage D → Type 0
-TriesTimes disks file count steps result course = MatchResult result
-    (λ _. UndoesLast disks file count steps course)
-    (λ _. UndoesFewer disks file count steps course)
+-- how many changes are to be taken back, and what was told before that and behind it
+pub record Times : Type 0 where
+  pub count : ℕ
+  pub told : ToldBytes
 
-abbrev pub TriesByBook : {D A : Type 0} → disk.Ghosts D → List ℕ → ℕ → Result (Unit {0}) A
-    → Passage D → Type 0
-TriesByBook disks file count result course = MatchResult result
-    (λ _. UsesBook file (UndoesLast disks file count) course)
+abbrev pub TriesTimes : {D A : Type 0} → disk.Ghosts D → List ℕ → Times → List StepValue
+    → Result (Unit {0}) A → Passage D → Type 0
+TriesTimes disks file times steps result course = MatchResult result
+    (λ _. Tells times.told (λ more. UndoesLast disks file times.count more steps course))
+    (λ _. UndoesFewer disks file times.count steps course)
+
+abbrev pub TriesByBook : {D A : Type 0} → disk.Ghosts D → List ℕ → ℕ → ToldBytes
+    → Result (Unit {0}) A → Passage D → Type 0
+TriesByBook disks file count told result course = MatchResult result
+    (λ _. Tells told (λ more. UsesBook file (UndoesLast disks file count more) course))
     (λ _. FindsNoBook course ⊎ UsesBook file (UndoesFewer disks file count) course)
 
-abbrev pub TriesWithin : {D A : Type 0} → disk.Ghosts D → List ℕ → ℕ → Result (Unit {0}) A
-    → List (DeskDeed D) → List (DeskDeed D) → Type 0
-TriesWithin disks file count result was now = MatchResult result
-    (λ _. IsChangedWithin disks file (UsesBook file (UndoesLast disks file count)) was now)
-    (λ _. Did was now (Visits disks file Change)
-    ⊎ (IsChangedWithin disks file FindsNoBook was now
-    ⊎ IsChangedWithin disks file (UsesBook file (UndoesFewer disks file count)) was now))
+abbrev pub TriesWithin : {D A : Type 0} → disk.Ghosts D → List ℕ → ℕ → ToldBytes
+    → Result (Unit {0}) A → Stretch D → Type 0
+TriesWithin disks file count told result stretch = MatchResult result
+    (λ _. Tells told (λ more. IsChangedWithin disks file
+    (UsesBook file (UndoesLast disks file count more)) stretch.was stretch.now))
+    (λ _. Did stretch.was stretch.now (Visits disks file Change)
+    ⊎ (IsChangedWithin disks file FindsNoBook stretch.was stretch.now
+    ⊎ IsChangedWithin disks file (UsesBook file (UndoesFewer disks file count))
+    stretch.was stretch.now))

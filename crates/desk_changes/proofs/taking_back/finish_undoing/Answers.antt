@@ -22,14 +22,14 @@ returns-in_err-tell_undone-clause-works g c =
     let file = string_bytes c.args.file.now in
     let restored = beside_archive g.D.Disk file _ _ _ (works_carried g.D.Disk _ _ _ _ c.restore.ensures) in
     let marked = then_files g.D.Disk file _ _ _ _ _ restored c.keep_mark.ensures.files in
-    then_works g.D.Disk file _ _ _ _ _ marked (works_asked g.D.Disk _ _ c.tell_undone.ensures)
+    then_works g.D.Disk file _ _ _ _ _ marked (works_asked g.D.Disk _ _ c.tell_undone.ensures.asked)
 
 pub returns-clause-works : goal.returns-clause-works
 returns-clause-works g c =
     let file = string_bytes c.args.file.now in
     let restored = beside_archive g.D.Disk file _ _ _ (works_carried g.D.Disk _ _ _ _ c.restore.ensures) in
     let marked = then_files g.D.Disk file _ _ _ _ _ restored c.keep_mark.ensures.files in
-    then_works g.D.Disk file _ _ _ _ _ marked (works_asked g.D.Disk _ _ c.tell_undone.ensures)
+    then_works g.D.Disk file _ _ _ _ _ marked (works_asked g.D.Disk _ _ c.tell_undone.ensures.asked)
 
 pub returns-in_err-restore-clause-finishes : goal.returns-in_err-restore-clause-finishes
 returns-in_err-restore-clause-finishes g c =
@@ -55,13 +55,20 @@ returns-in_err-tell_undone-clause-finishes g c =
     rw p.1 (record {
       last = c.restore.new.store;
       brings = inl (c.in_ok-restore.ensures, inr (Undone, refl, c.in_ok-keep_mark.ensures.kept));
-      asked = c.tell_undone.ensures;
+      asked = c.tell_undone.ensures.asked;
     })
 
 pub returns-clause-finishes : goal.returns-clause-finishes
-returns-clause-finishes g c = record {
-  last = c.restore.new.store;
-  carried = c.in_ok-restore.ensures;
-  marked = c.in_ok-keep_mark.ensures.kept;
-  asked = c.tell_undone.ensures;
-}
+returns-clause-finishes g c =
+    let tells = c.in_ok-tell_undone.ensures.tells in
+    record {
+      more = tells.more;
+      are = tells.are;
+      so = record {
+        last = c.restore.new.store;
+        carried = c.in_ok-restore.ensures;
+        marked = c.in_ok-keep_mark.ensures.kept;
+        asked = c.tell_undone.ensures.asked;
+        tells = tells.so;
+      };
+    }

@@ -23,5 +23,5 @@ returns-in_err-look_at-clause-undoes g c =
 
 pub returns-clause-undoes : goal.returns-clause-undoes
 returns-clause-undoes g c =
-    change_of g.D.Disk (string_bytes c.args.file.now) (steps_of c.args.changes.now) c.undo_entries.result _ _ _ _ _
+    change_of g.D.Disk (string_bytes c.args.file.now) (steps_of c.args.changes.now) _ c.undo_entries.result _ _ _ _ _
     (record { asked = c.look_at.ensures.asked; stood = c.in_ok-look_at.ensures.stands }) c.undo_entries.ensures.undoes

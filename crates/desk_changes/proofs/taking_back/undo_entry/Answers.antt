@@ -1,4 +1,4 @@
-use Rattle.std.proofs.Common.{refl, inl, inr, ◌∙◌, string_bytes}
+use Rattle.std.proofs.Common.{[], refl, inl, inr, ◌∙◌, sym, append-nil, string_bytes}
 use Rattle.std.proofs.lemmas.Result.{err_from_is_err_and}
 use Rattle.tune_archive.specs.AsStore.{store_on}
 use Rattle.tune_asking.proofs.CallLemmas.{asked_none, asked_more}
@@ -95,13 +95,20 @@ pub returns-then-is_done-clause-undoes : goal.returns-then-is_done-clause-undoes
 returns-then-is_done-clause-undoes g c =
     let done = c.is_done.ensures c.if-is_done.true in
     record {
-      unbegun = done.1;
-      asked = c.look_at_entry.ensures.asked;
-      stood = record {
-        stays = c.in_ok-standing.ensures.judges.stays;
-        was = λ is_open h. c.in_ok-standing.ensures.judges.was is_open h ∙ done.0;
-      };
-      marked = c.in_ok-keep_mark.ensures.kept;
+      more = [];
+      are = sym (append-nil c.args.told.now.items);
+      so = (
+        refl,
+        record {
+          unbegun = done.1;
+          asked = c.look_at_entry.ensures.asked;
+          stood = record {
+            stays = c.in_ok-standing.ensures.judges.stays;
+            was = λ is_open h. c.in_ok-standing.ensures.judges.was is_open h ∙ done.0;
+          };
+          marked = c.in_ok-keep_mark.ensures.kept;
+        },
+      );
     }
 
 pub returns-in_err-keep_taken-clause-undoes : goal.returns-in_err-keep_taken-clause-undoes
@@ -160,15 +167,21 @@ returns-in_err-finish_undoing-clause-undoes g c =
     })
 
 pub returns-clause-undoes : goal.returns-clause-undoes
-returns-clause-undoes g c = record {
-  judged = c.look_at_entry.new.store;
-  kept = c.keep_taken.new.archive;
-  ready = c.begin_undoing.new.archive;
-  was_kept = g.K.Desk.deeds c.keep_taken.new.desk;
-  was_begun = g.K.Desk.deeds c.begin_undoing.new.desk;
-  asked = c.look_at_entry.ensures.asked;
-  stood = c.in_ok-standing.ensures.stands;
-  keeps = c.in_ok-keep_taken.ensures.keeps;
-  begins = c.in_ok-begin_undoing.ensures.begins;
-  brings = c.in_ok-finish_undoing.ensures.finishes;
-}
+returns-clause-undoes g c =
+    let finishes = c.in_ok-finish_undoing.ensures.finishes in
+    record {
+      more = finishes.more;
+      are = finishes.are;
+      so = record {
+        judged = c.look_at_entry.new.store;
+        kept = c.keep_taken.new.archive;
+        ready = c.begin_undoing.new.archive;
+        was_kept = g.K.Desk.deeds c.keep_taken.new.desk;
+        was_begun = g.K.Desk.deeds c.begin_undoing.new.desk;
+        asked = c.look_at_entry.ensures.asked;
+        stood = c.in_ok-standing.ensures.stands;
+        keeps = c.in_ok-keep_taken.ensures.keeps;
+        begins = c.in_ok-begin_undoing.ensures.begins;
+        brings = finishes.so;
+      };
+    }

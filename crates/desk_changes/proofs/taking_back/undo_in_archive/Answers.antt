@@ -30,6 +30,6 @@ pub returns-clause-undoes : goal.returns-clause-undoes
 returns-clause-undoes g c =
     let file = string_bytes c.args.file.now in
     let same : c.in_ok-changes.changes.items ≡ c.as_slice.result.now = search rules in
-    book_then g.D.Disk file c.args.count (steps_of c.as_slice.result.now) c.undo_times.result _ _ _ _ _
+    book_then g.D.Disk file c.args.count _ (steps_of c.as_slice.result.now) c.undo_times.result _ _ _ _ _
     (subst (λ (l : List Step). ReadsSteps file (steps_of l) (g.K.Desk.deeds c.args.desk.now) (g.K.Desk.deeds c.read_changes.new.desk)) same
     c.in_ok-changes.ensures.reads) c.undo_times.ensures.undoes

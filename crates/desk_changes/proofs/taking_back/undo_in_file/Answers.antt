@@ -30,7 +30,7 @@ pub returns-in-Ok-clause-undoes : goal.returns-in-Ok-clause-undoes
 returns-in-Ok-clause-undoes g c =
     let file = string_bytes c.args.file.now in
     let opens = c.in-Ok.ensures in
-    within_file g.D.Disk file c.args.count c.undo_in_archive-done.result opens.old c.into_disk.result
+    within_file g.D.Disk file c.args.count _ c.undo_in_archive-done.result opens.old c.into_disk.result
     (course_of g.D.Disk file c.in-Ok.archive c.undo_in_archive-done.new.archive (g.K.Desk.deeds c.open_once.new.desk)
     (g.K.Desk.deeds c.undo_in_archive-done.new.desk)) (g.K.Desk.deeds c.args.desk.now) (g.K.Desk.deeds c.close.new.self)
     (record { is = opens.is; became = c.into_disk.ensures.disk; began = opens.deeds; ended = c.close.ensures.deed }) c.undo_in_archive-done.ensures.undoes

@@ -9,8 +9,8 @@ invariant-loop-wanted g l = record {
   within : l.left ≤ length l.changes;
   works : WorksBeside g.D.Disk (string_bytes l.file) (course_of g.D.Disk (string_bytes l.file) l.fn.archive l.archive
       (g.K.Desk.deeds l.fn.desk) (g.K.Desk.deeds l.desk));
-  so : BackTo g.D.Disk (string_bytes l.file) l.changes l.left l.wanted l.count (course_of g.D.Disk (string_bytes l.file) l.fn.archive l.archive
-      (g.K.Desk.deeds l.fn.desk) (g.K.Desk.deeds l.desk));
+  so : BackTo g.D.Disk (string_bytes l.file) l.changes l.left l.wanted l.count l.fn.told.items l.told.items
+      (course_of g.D.Disk (string_bytes l.file) l.fn.archive l.archive (g.K.Desk.deeds l.fn.desk) (g.K.Desk.deeds l.desk));
 }
 
 abbrev pub decreases-loop-wanted : goal.decreases-loop-wanted
