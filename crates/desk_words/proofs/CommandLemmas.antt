@@ -1,5 +1,5 @@
 -- Commands and arguments by what the parser reads of them: with one setting more, one argument more and one command more.
-use Rattle.std.proofs.Common.{◌≡◌, ap, ◌∙◌, refl, sym, Bool, true, false, ◌||◌, Bor, List, ℕ, ◌+◌, ◌<◌, length, fold, map, take, get_or}
+use Rattle.std.proofs.Common.{◌≡◌, ap, ◌∙◌, refl, Bool, true, false, ◌||◌, Bor, List, ℕ, ◌+◌, ◌<◌, length, fold, map, take, get_or}
 use Rattle.std.proofs.lemmas.List.{map_more}
 use Rattle.std.proofs.lemmas.List.Sums.{fold_push}
 use Rattle.std.specs.Prelude.{IsSomeAnd, Option, Some, None}

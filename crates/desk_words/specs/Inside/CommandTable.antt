@@ -1,5 +1,5 @@
 -- The rows of the table of commands, by the parser's own rules.
-use Rattle.std.specs.Prelude.{List, ℕ, Some, map}
+use Rattle.std.specs.Prelude.{ℕ, Some, map}
 use Rattle.clap.specs.Words.{App, Rule, Text, new_rule}
 use Rattle.clap.specs.declared.builder.action.ArgAction.TheVariants.{Append}
 use Rattle.desk_words.specs.declared.command_table.Argument.{Argument}
