@@ -106,7 +106,7 @@ fn next_number<K: AllocGlobal + Desk>(
     }
 }
 
-// The same by what stands at COPY.
+// The same by what stands at COPY. A file that stands there is not FILE by another name.
 fn next_by<K: AllocGlobal + Desk>(
     desk: &mut K,
     file: &String,
@@ -118,26 +118,16 @@ fn next_by<K: AllocGlobal + Desk>(
         (NumbersCopy standing (string_bytes copy.now) number)) }
 {
     match standing {
-        Standing::File => {
-            spare_file(desk, file, copy)?;
-            next_behind(desk, copy, standing)
-        }
+        Standing::File => match desk.is_same(copy, file) {
+            Ok(false) | Err(DeskFault::Missing) => next_behind(desk, copy, standing),
+            Ok(true) => Err(Unbacked::File(ResultFault {
+                target: None,
+                why: ResultRefusal::Archive,
+            })),
+            Err(fault) => Err(Unbacked::Unasked(fault)),
+        },
         Standing::Nothing => next_behind(desk, copy, standing),
         _ => Ok(0),
-    }
-}
-
-// That COPY is not FILE by another name.
-fn spare_file<K: Desk>(desk: &mut K, file: &String, copy: &String) -> Result<(), Unbacked>
-    ensures { IsQuiet (K.deeds desk.old) (K.deeds desk.new) }
-{
-    match desk.is_same(copy, file) {
-        Ok(false) | Err(DeskFault::Missing) => Ok(()),
-        Ok(true) => Err(Unbacked::File(ResultFault {
-            target: None,
-            why: ResultRefusal::Archive,
-        })),
-        Err(fault) => Err(Unbacked::Unasked(fault)),
     }
 }
 
