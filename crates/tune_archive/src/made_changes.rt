@@ -1,7 +1,7 @@
 // A change of an archive, made on its pages.
 ghost use Rattle.std.specs.Prelude.{◌≡◌, ◌≢◌, ◌≤◌, ◌-◌, ◌++◌, false, length, replicate};
 ghost use Rattle.std.specs.Prelude.{IfErr, OnErr, OnOk};
-ghost use Rattle.tune_contents.specs.LayAnswers.{AnswersLay};
+ghost use Rattle.tune_index.specs.IndexAnswers.{AnswersEdit};
 ghost use Rattle.tune_contents.specs.Claimed.{AreRows};
 ghost use Rattle.tune_contents.specs.Holds.{labels_in, HoldsSomeState};
 ghost use Rattle.tune_pages.specs.Kept.{HonestAt, state_at};
@@ -85,7 +85,7 @@ fn change_pages<D: Disk>(
     ensures same { OnErr result (contents.new ≡ contents.old) }
     ensures stays { IfErr result (λ fault. fault ≢ Device
         → StaysKept D.honest D.state pages.old pages.new) }
-    ensures answer { AnswersLay result pages.new.closed }
+    ensures answer { AnswersEdit result pages.new.closed (Unit {0}) }
     ensures never_full { IfErr result (λ fault.
         HonestAt D.honest pages.new.disk → fault ≢ FileFull) }
 {

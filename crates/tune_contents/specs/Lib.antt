@@ -2,7 +2,6 @@ pub mod Claimed
 pub mod FilePages
 pub mod Holds
 pub mod Inside
-pub mod LayAnswers
 pub mod Most
 pub mod Next
 pub mod Texts

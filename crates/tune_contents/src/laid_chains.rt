@@ -7,19 +7,18 @@ ghost use Rattle.tune_pages.specs.Faults.{pages_for};
 ghost use Rattle.tune_pages.specs.FreePages.{TakesAtMost};
 ghost use Rattle.tune_pages.specs.Kept.{HonestAt};
 ghost use Rattle.tune_journal.specs.Pages.{page_at};
-ghost use Rattle.tune_pages.specs.Faults.{AnswersRead};
-ghost use Rattle.tune_pages.specs.PageLooks.{LooksAt, SameStand};
 ghost use Rattle.tune_format.specs.Written.{IsRoot};
 ghost use Rattle.tune_pages.specs.Stand.{HasSomeChain};
 ghost use Rattle.tune_pages.specs.Work.{stand, Fits};
 ghost use Rattle.tune_pages.specs.declared.fault.Fault.TheVariants.{Device, Closed};
 ghost use Rattle.tune_pages.specs.declared.fault.Fault.TheVariants.{OutOfMemory};
+ghost use Rattle.tune_pages.specs.Progress.{IsInProgress, Reads};
 ghost use Rattle.tune_sets.specs.SetBytes.{written_sets};
 ghost use Rattle.tune_store.specs.TuneSteps.{numbered};
 ghost use Rattle.tune_store.specs.declared.layout.Layout.{Layout};
 ghost use Rattle.tune_format.specs.declared.root.Firsts.{Firsts};
 ghost use Rattle.tune_format.specs.declared.rows.Row.{Row};
-ghost use Rattle.tune_contents.specs.LayAnswers.{AnswersLay};
+ghost use Rattle.tune_index.specs.IndexAnswers.{Edits};
 ghost use Rattle.tune_contents.specs.Next.{FitsRows, rows_after};
 ghost use Rattle.tune_contents.specs.Inside.Laying.{SwapsChain, LaysRoot, LaysSets};
 ghost use Rattle.tune_contents.specs.Inside.Laying.{HoldsSomeTunes, LaysTunes};
@@ -47,15 +46,12 @@ fn swap_chain<D: Disk>(
     first: u32,
     bytes: &[u8],
 ) -> Result<u32, Fault>
-    requires open { pages.old.closed ≡ false }
-    requires fits { Fits pages.old work.old }
+    requires work { IsInProgress pages.old work.old }
     requires chain { HonestAt D.honest pages.old.disk
         → HasSomeChain (stand pages.old work.old) first }
-    ensures fits { OnOk result (Fits pages.new work.new) }
     ensures swaps { IfOk result (λ next. HonestAt D.honest pages.new.disk → SwapsChain
         (stand pages.old work.old) (stand pages.new work.new) first next bytes.now) }
-    ensures looks { LooksAt D.honest D.failures D.state result pages.old pages.new }
-    ensures answer { AnswersLay result pages.new.closed }
+    ensures edits { Edits D.Disk result (Unit {0}) work.new pages.old pages.new }
     ensures takes { HonestAt D.honest pages.new.disk → TakesAtMost (pages_for (length bytes.now))
         result (stand pages.old work.old) (stand pages.new work.new) }
 {
@@ -81,12 +77,10 @@ pub(crate) fn put_tune<D: Disk>(
     place: usize,
     tune: &Tune,
 ) -> Result<RowChange, Fault>
-    requires open { pages.old.closed ≡ false }
-    requires fits { Fits pages.old work.old }
+    requires work { IsInProgress pages.old work.old }
     requires place { place < length rows.now.items }
     requires holds { HonestAt D.honest pages.old.disk
         → HoldsSomeTunes (stand pages.old work.old) rows.now.items }
-    ensures fits { OnOk result (Fits pages.new work.new) }
     ensures lays { IfOk result (λ made. HonestAt D.honest pages.new.disk → LaysTunes
         (stand pages.old work.old) (stand pages.new work.new) rows.now.items
         (rows_after made rows.now.items)
@@ -94,8 +88,7 @@ pub(crate) fn put_tune<D: Disk>(
     ensures row { IfOk result (λ made.
         PutsRow place tune.now.number rows.now.items (rows_after made rows.now.items)) }
     ensures single { IfOk result (λ made. IsSingle made rows.now.items) }
-    ensures looks { LooksAt D.honest D.failures D.state result pages.old pages.new }
-    ensures answer { AnswersLay result pages.new.closed }
+    ensures edits { Edits D.Disk result (Unit {0}) work.new pages.old pages.new }
     ensures takes { HonestAt D.honest pages.new.disk → TakesAtMost (tune_pages tune.now.text)
         result (stand pages.old work.old) (stand pages.new work.new) }
 {
@@ -119,12 +112,10 @@ pub(crate) fn take_tune<D: Disk>(
     rows: &TieredVector<Row>,
     place: usize,
 ) -> Result<RowChange, Fault>
-    requires open { pages.old.closed ≡ false }
-    requires fits { Fits pages.old work.old }
+    requires work { IsInProgress pages.old work.old }
     requires place { place < length rows.now.items }
     requires holds { HonestAt D.honest pages.old.disk
         → HoldsSomeTunes (stand pages.old work.old) rows.now.items }
-    ensures fits { OnOk result (Fits pages.new work.new) }
     ensures lays { IfOk result (λ made. HonestAt D.honest pages.new.disk → LaysTunes
         (stand pages.old work.old) (stand pages.new work.new) rows.now.items
         (rows_after made rows.now.items)
@@ -132,8 +123,7 @@ pub(crate) fn take_tune<D: Disk>(
     ensures rows { IfOk result (λ made.
         rows_after made rows.now.items ≡ remove rows.now.items place) }
     ensures single { IfOk result (λ made. IsSingle made rows.now.items) }
-    ensures looks { LooksAt D.honest D.failures D.state result pages.old pages.new }
-    ensures answer { AnswersLay result pages.new.closed }
+    ensures edits { Edits D.Disk result (Unit {0}) work.new pages.old pages.new }
     ensures takes { HonestAt D.honest pages.new.disk → TakesAtMost 0
         result (stand pages.old work.old) (stand pages.new work.new) }
 {
@@ -151,8 +141,7 @@ fn add_tune<D: Disk>(
     number: u32,
     text: &TuneText,
 ) -> Result<(), Fault>
-    requires open { pages.now.closed ≡ false }
-    requires fits { Fits pages.now work.old }
+    requires work { IsInProgress pages.now work.old }
     ensures fits { OnOk result (Fits pages.now work.new) }
     ensures lays { OnOk result ((rows : List Row)
         → LaysTunes (stand pages.now work.old) (stand pages.now work.new)
@@ -197,8 +186,7 @@ fn add_tunes<D: Disk>(
     first: u32,
     texts: &[TuneText],
 ) -> Result<Vec<Row>, Fault>
-    requires open { pages.now.closed ≡ false }
-    requires fits { Fits pages.now work.old }
+    requires work { IsInProgress pages.now work.old }
     requires numbers { first + length texts.now < 2 ^ 32 }
     ensures fits { OnOk result (Fits pages.now work.new) }
     ensures lays { IfOk result (λ more. (rows : List Row)
@@ -248,8 +236,7 @@ pub(crate) fn lay_added<D: Disk>(
     first: u32,
     texts: &[TuneText],
 ) -> Result<RowChange, Fault>
-    requires open { pages.now.closed ≡ false }
-    requires fits { Fits pages.now work.old }
+    requires work { IsInProgress pages.now work.old }
     requires numbers { first + length texts.now < 2 ^ 32 }
     ensures fits { OnOk result (Fits pages.now work.new) }
     ensures lays { IfOk result (λ made. LaysTunes
@@ -281,16 +268,13 @@ fn lay_sets<D: Disk>(
     sets_first: u32,
     sets: &SetLists,
 ) -> Result<u32, Fault>
-    requires open { pages.old.closed ≡ false }
-    requires fits { Fits pages.old work.old }
+    requires work { IsInProgress pages.old work.old }
     requires chain { HonestAt D.honest pages.old.disk
         → HasSomeChain (stand pages.old work.old) sets_first }
-    ensures fits { OnOk result (Fits pages.new work.new) }
     ensures swaps { IfOk result (λ next. HonestAt D.honest pages.new.disk → SwapsChain
         (stand pages.old work.old) (stand pages.new work.new) sets_first next
         (written_sets sets.now)) }
-    ensures looks { LooksAt D.honest D.failures D.state result pages.old pages.new }
-    ensures answer { AnswersLay result pages.new.closed }
+    ensures edits { Edits D.Disk result (Unit {0}) work.new pages.old pages.new }
     ensures takes { HonestAt D.honest pages.new.disk → TakesAtMost (sets_pages sets.now)
         result (stand pages.old work.old) (stand pages.new work.new) }
 {
@@ -308,15 +292,12 @@ pub(crate) fn lay_sets_where<D: Disk>(
     sets: &SetLists,
     changes: bool,
 ) -> Result<u32, Fault>
-    requires open { pages.old.closed ≡ false }
-    requires fits { Fits pages.old work.old }
+    requires work { IsInProgress pages.old work.old }
     requires chain { HonestAt D.honest pages.old.disk
         → HasSomeChain (stand pages.old work.old) sets_first }
-    ensures fits { OnOk result (Fits pages.new work.new) }
     ensures lays { IfOk result (λ next. HonestAt D.honest pages.new.disk → LaysSets
         (stand pages.old work.old) (stand pages.new work.new) sets_first next changes sets.now) }
-    ensures looks { LooksAt D.honest D.failures D.state result pages.old pages.new }
-    ensures answer { AnswersLay result pages.new.closed }
+    ensures edits { Edits D.Disk result (Unit {0}) work.new pages.old pages.new }
     ensures takes { HonestAt D.honest pages.new.disk → TakesAtMost (sets_pages sets.now)
         result (stand pages.old work.old) (stand pages.new work.new) }
 {
@@ -336,15 +317,10 @@ fn has_root<D: Disk>(
     was: Firsts,
     firsts: Firsts,
 ) -> Result<bool, Fault>
-    requires open { pages.old.closed ≡ false }
-    requires fits { Fits pages.old work.now }
+    requires work { IsInProgress pages.old work.now }
     ensures root { IfOk result (λ has. IsTrue has → HonestAt D.honest pages.new.disk
         → IsRoot layout (page_at (stand pages.old work.now).pages 0) firsts) }
-    ensures fits { OnOk result (Fits pages.new work.now) }
-    ensures stand { OnOk result (SameStand (HonestAt D.honest pages.new.disk)
-        (stand pages.old work.now) (stand pages.new work.now)) }
-    ensures looks { LooksAt D.honest D.failures D.state result pages.old pages.new }
-    ensures answer { AnswersRead result pages.old.closed pages.new.closed }
+    ensures reads { Reads D.Disk result work.now pages.old pages.new }
 {
     if was != firsts || !pages.in_use(work, 0) {
         return Ok(false);
@@ -367,13 +343,10 @@ pub(crate) fn lay_root<D: Disk>(
     was: Firsts,
     firsts: Firsts,
 ) -> Result<(), Fault>
-    requires open { pages.old.closed ≡ false }
-    requires fits { Fits pages.old work.old }
-    ensures fits { OnOk result (Fits pages.new work.new) }
+    requires work { IsInProgress pages.old work.old }
     ensures root { OnOk result (HonestAt D.honest pages.new.disk → LaysRoot layout
         (stand pages.old work.old) (stand pages.new work.new) firsts) }
-    ensures looks { LooksAt D.honest D.failures D.state result pages.old pages.new }
-    ensures answer { AnswersLay result pages.new.closed }
+    ensures edits { Edits D.Disk result (Unit {0}) work.new pages.old pages.new }
     ensures takes { HonestAt D.honest pages.new.disk
         → TakesAtMost 0 result (stand pages.old work.old) (stand pages.new work.new) }
 {

@@ -4,9 +4,9 @@ ghost use Rattle.std.specs.Prelude.{Err, IfOk, IfErr, OnOk};
 ghost use Rattle.tune_journal.specs.FileOffsets.{block_bytes};
 ghost use Rattle.tune_pages.specs.FreePages.{TakesAtMost};
 ghost use Rattle.tune_pages.specs.Kept.{HonestAt};
-ghost use Rattle.tune_pages.specs.PageLooks.{LooksAt};
-ghost use Rattle.tune_pages.specs.Work.{stand, Fits};
+ghost use Rattle.tune_pages.specs.Work.{stand};
 ghost use Rattle.tune_pages.specs.declared.fault.Fault.TheVariants.{FileFull, OutOfMemory};
+ghost use Rattle.tune_pages.specs.Progress.{IsInProgress};
 ghost use Rattle.tune_search.specs.SearchPages.{AreListed, firsts_in};
 ghost use Rattle.tune_sets.specs.declared.faults.SetFault.TheVariants as set_fault;
 ghost use Rattle.tune_sets.specs.declared.set_lists.TuneSet.{TuneSet};
@@ -15,7 +15,7 @@ ghost use Rattle.tune_store.specs.Plans.{CanChange};
 ghost use Rattle.tune_store.specs.State.{State, IsState};
 ghost use Rattle.tune_store.specs.declared.plans.Change.TheVariants.{Upgrade};
 ghost use Rattle.tune_store.specs.declared.tune.Tune.{Tune};
-ghost use Rattle.tune_contents.specs.LayAnswers.{AnswersLay};
+ghost use Rattle.tune_index.specs.IndexAnswers.{Edits};
 ghost use Rattle.tune_contents.specs.Claimed.{AreRows};
 ghost use Rattle.tune_contents.specs.Holds.{labels_in, HoldsContents, HoldsSomeState, LaysMemory};
 ghost use Rattle.tune_contents.specs.Most.{enough_pages, most_part_pages};
@@ -87,12 +87,10 @@ fn lay_tunes<D: Disk>(
     rows: &TieredVector<Row>,
     change: &Change,
 ) -> Result<RowChange, Fault>
-    requires open { pages.old.closed ≡ false }
-    requires fits { Fits pages.old work.old }
+    requires work { IsInProgress pages.old work.old }
     requires accept { RowsAccept change.now rows.now.items }
     requires holds { HonestAt D.honest pages.old.disk
         → HoldsSomeTunes (stand pages.old work.old) rows.now.items }
-    ensures fits { OnOk result (Fits pages.new work.new) }
     ensures lays { IfOk result (λ made. HonestAt D.honest pages.new.disk → LaysChange
         (stand pages.old work.old) (stand pages.new work.new) rows.now.items
         (rows_after made rows.now.items) change.now) }
@@ -100,8 +98,7 @@ fn lay_tunes<D: Disk>(
     ensures rows { IfOk result (λ made.
         KeepsRows change.now rows.now.items (rows_after made rows.now.items)) }
     ensures room { IfOk result (λ made. FitsRows made rows.now.items rows.now.room) }
-    ensures looks { LooksAt D.honest D.failures D.state result pages.old pages.new }
-    ensures answer { AnswersLay result pages.new.closed }
+    ensures edits { Edits D.Disk result (Unit {0}) work.new pages.old pages.new }
     ensures takes { HonestAt D.honest pages.new.disk → TakesAtMost (change_pages change.now)
         result (stand pages.old work.old) (stand pages.new work.new) }
 {
@@ -134,13 +131,11 @@ fn lay_indexed<D: Disk>(
     indexes: &mut Indexes,
     change: &Change,
 ) -> Result<(RowChange, u32, SearchFirsts), Fault>
-    requires open { pages.old.closed ≡ false }
-    requires fits { Fits pages.old work.old }
+    requires work { IsInProgress pages.old work.old }
     requires accept { RowsAccept change.now rows.now.items }
     requires holds { HonestAt D.honest pages.old.disk → HoldsSomeIndexed layout
         (stand pages.old work.old)
         (keeps_of indexes.old.numbers indexes.old.searches rows.now.items) }
-    ensures fits { OnOk result (Fits pages.new work.new) }
     ensures lays { IfOk result (λ laid. HonestAt D.honest pages.new.disk → LaysIndexed layout
         (stand pages.old work.old) (stand pages.new work.new)
         (keeps_of indexes.old.numbers indexes.old.searches rows.now.items)
@@ -154,8 +149,7 @@ fn lay_indexed<D: Disk>(
     ensures room { IfOk result (λ laid. FitsRows laid.0 rows.now.items rows.now.room) }
     ensures notes { OnOk result
         (indexes.new.searches.notes ≡ indexes.old.searches.notes) }
-    ensures looks { LooksAt D.honest D.failures D.state result pages.old pages.new }
-    ensures answer { AnswersLay result pages.new.closed }
+    ensures edits { Edits D.Disk result (Unit {0}) work.new pages.old pages.new }
     ensures takes { HonestAt D.honest pages.new.disk → (tunes : List Tune) (sets : List TuneSet)
         → HoldsIndexed layout (stand pages.old work.old)
         (keeps_of indexes.old.numbers indexes.old.searches rows.now.items) tunes
@@ -198,8 +192,7 @@ fn lay_change<D: Disk>(
     contents: &Contents,
     change: &Change,
 ) -> Result<Next, Fault>
-    requires open { pages.old.closed ≡ false }
-    requires fits { Fits pages.old work.old }
+    requires work { IsInProgress pages.old work.old }
     requires stays { change.now ≢ Upgrade }
     requires possible { CanChange change.now contents.now.layout
         (labels_in contents.now.rows.items) contents.now.sets }
@@ -214,9 +207,7 @@ fn lay_change<D: Disk>(
     ensures layout { IfOk result (λ next. next.layout ≡ contents.now.layout) }
     ensures room { IfOk result (λ next.
         FitsRows next.rows contents.now.rows.items contents.now.rows.room) }
-    ensures fits { OnOk result (Fits pages.new work.new) }
-    ensures looks { LooksAt D.honest D.failures D.state result pages.old pages.new }
-    ensures answer { AnswersLay result pages.new.closed }
+    ensures edits { Edits D.Disk result (Unit {0}) work.new pages.old pages.new }
     ensures takes { HonestAt D.honest pages.new.disk → (state : State)
         → HoldsContents (stand pages.old work.old) contents.now state → IsState state
         → IsState (changed change.now state) → TakesAtMost (most_part_pages contents.now.layout)
@@ -290,8 +281,7 @@ pub fn lay<D: Disk>(
     contents: &Contents,
     change: Change,
 ) -> Result<Next, Fault>
-    requires open { pages.old.closed ≡ false }
-    requires fits { Fits pages.old work.old }
+    requires work { IsInProgress pages.old work.old }
     requires possible { CanChange change contents.now.layout
         (labels_in contents.now.rows.items) contents.now.sets }
     requires holds { HonestAt D.honest pages.old.disk
@@ -306,9 +296,7 @@ pub fn lay<D: Disk>(
         ≡ changed_layout change contents.now.layout) }
     ensures room { IfOk result (λ next.
         FitsRows next.rows contents.now.rows.items contents.now.rows.room) }
-    ensures fits { OnOk result (Fits pages.new work.new) }
-    ensures looks { LooksAt D.honest D.failures D.state result pages.old pages.new }
-    ensures answer { AnswersLay result pages.new.closed }
+    ensures edits { Edits D.Disk result (Unit {0}) work.new pages.old pages.new }
     ensures takes { HonestAt D.honest pages.new.disk → (state : State)
         → HoldsContents (stand pages.old work.old) contents.now state → IsState state
         → IsState (changed change state) → TakesAtMost (most_part_pages contents.now.layout)

@@ -1,21 +1,21 @@
 // The index of numbers, changed with the rows.
-ghost use Rattle.std.specs.Prelude.{◌≡◌, ◌+◌, ◌*◌, false, true};
+ghost use Rattle.std.specs.Prelude.{◌≡◌, ◌+◌, ◌*◌, true};
 ghost use Rattle.std.specs.Prelude.{length, List, IfOk, OnOk};
 ghost use Rattle.tune_pages.specs.Faults.{pages_for};
 ghost use Rattle.tune_pages.specs.FreePages.{TakesAtMost};
 ghost use Rattle.tune_pages.specs.Kept.{HonestAt};
-ghost use Rattle.tune_pages.specs.PageLooks.{LooksAt};
-ghost use Rattle.tune_pages.specs.Work.{stand, Fits};
+ghost use Rattle.tune_pages.specs.Work.{stand};
+ghost use Rattle.tune_pages.specs.Progress.{IsInProgress};
 ghost use Rattle.index_keys.specs.Entries.{AllFit, Entry, FitsLeaf, IsRising, inserted_all};
 ghost use Rattle.index_keys.specs.Entries.{removed_all};
 ghost use Rattle.tune_index.specs.ListedLeaves.{index_with};
+ghost use Rattle.tune_index.specs.IndexAnswers.{Edits};
 ghost use Rattle.tune_parts.specs.Parts.{Part};
 ghost use Rattle.tune_search.specs.IndexParts.{HoldsIndexAmong, HoldsSomeIndex, IndexParts};
 ghost use Rattle.tune_search.specs.IndexParts.{LaysIndex};
 ghost use Rattle.tune_search.specs.Searches.{key_bytes};
 ghost use Rattle.tune_format.specs.RootOffsets.{number_bytes};
 ghost use Rattle.tune_format.specs.Written.{number_entries, number_key};
-ghost use Rattle.tune_contents.specs.LayAnswers.{AnswersLay};
 ghost use Rattle.tune_contents.specs.Claimed.{RowsRise};
 ghost use Rattle.tune_contents.specs.Inside.ChangedRows.{IsMadeOf, PutsRuns};
 ghost use Rattle.tune_contents.specs.Next.{rows_after};
@@ -119,12 +119,10 @@ pub(crate) fn change_numbers<D: Disk>(
     numbers: &mut Index<32>,
     runs: &NumberRuns,
 ) -> Result<u32, Fault>
-    requires open { pages.old.closed ≡ false }
-    requires fits { Fits pages.old work.old }
+    requires work { IsInProgress pages.old work.old }
     requires index { HonestAt D.honest pages.old.disk
         → HoldsSomeIndex key_bytes (stand pages.old work.old) numbers.old }
     requires rising { IsRising runs.now.come.items }
-    ensures fits { OnOk result (Fits pages.new work.new) }
     ensures lays { OnOk result (HonestAt D.honest pages.new.disk → LaysIndex key_bytes
         (stand pages.old work.old) (stand pages.new work.new) numbers.old numbers.new
         (λ entries. inserted_all runs.now.come.items
@@ -138,8 +136,7 @@ pub(crate) fn change_numbers<D: Disk>(
         (removed_all runs.now.gone.items entries)) in
         TakesAtMost (count + pages_for (number_bytes * count)) result
         (stand pages.old work.old) (stand pages.new work.new) }
-    ensures looks { LooksAt D.honest D.failures D.state result pages.old pages.new }
-    ensures answer { AnswersLay result pages.new.closed }
+    ensures edits { Edits D.Disk result (Unit {0}) work.new pages.old pages.new }
 {
     take_run(alloc, pages, work, numbers, &runs.gone)?;
     put_run(alloc, pages, work, numbers, &runs.come)?;

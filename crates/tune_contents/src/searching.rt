@@ -1,14 +1,14 @@
 // The search indexes, changed with the texts of tunes.
-ghost use Rattle.std.specs.Prelude.{◌≡◌, ◌≤◌, ◌<◌, ◌^◌, ◌+◌, ◌++◌, ℕ, false, length, List};
+ghost use Rattle.std.specs.Prelude.{◌≡◌, ◌≤◌, ◌<◌, ◌^◌, ◌+◌, ◌++◌, ℕ, length, List};
 ghost use Rattle.std.specs.Prelude.{slice_index_or, IfErr, IfOk, IfSome, IsSome, OnOk, Some};
 ghost use Rattle.index_keys.specs.Holdings.{AreSmall};
-ghost use Rattle.tune_index.specs.IndexAnswers.{AnswersEdit};
-ghost use Rattle.tune_pages.specs.Faults.{AnswersRead, free_pages};
+ghost use Rattle.tune_index.specs.IndexAnswers.{Edits};
+ghost use Rattle.tune_pages.specs.Faults.{free_pages};
 ghost use Rattle.tune_pages.specs.FreePages.{TakesAtMost};
 ghost use Rattle.tune_pages.specs.Kept.{HonestAt};
-ghost use Rattle.tune_pages.specs.PageLooks.{LooksAt, SameStand};
-ghost use Rattle.tune_pages.specs.Work.{stand, Fits};
+ghost use Rattle.tune_pages.specs.Work.{stand};
 ghost use Rattle.tune_pages.specs.declared.fault.Fault.TheVariants.{OutOfMemory};
+ghost use Rattle.tune_pages.specs.Progress.{IsInProgress, Reads};
 ghost use Rattle.tune_parts.specs.Parts.{Part};
 ghost use Rattle.tune_search.specs.IncipitForms.{note_count};
 ghost use Rattle.tune_search.specs.SearchPages.{AreListed, firsts_in, leaf_count};
@@ -19,7 +19,6 @@ ghost use Rattle.tune_store.specs.State.{IsTunes};
 ghost use Rattle.tune_store.specs.declared.tune.Tune.{Tune};
 ghost use Rattle.tune_sets.specs.declared.set_lists.TuneSet.{TuneSet};
 ghost use Rattle.tune_format.specs.Filed.{numbered_texts};
-ghost use Rattle.tune_contents.specs.LayAnswers.{AnswersLay};
 ghost use Rattle.tune_contents.specs.Holds.{labels_in};
 ghost use Rattle.tune_contents.specs.Inside.Changes.{HoldsTunesWithin, RowsAccept};
 ghost use Rattle.tune_contents.specs.Inside.Laying.{HoldsTunes};
@@ -73,8 +72,7 @@ fn tune_at<D: Disk>(
     rows: &TieredVector<Row>,
     place: usize,
 ) -> Result<(u32, TuneText), Fault>
-    requires open { pages.old.closed ≡ false }
-    requires fits { Fits pages.old work.now }
+    requires work { IsInProgress pages.old work.now }
     requires place { place < length rows.now.items }
     requires holds { HonestAt D.honest pages.old.disk
         → HoldsTunesWithin layout (stand pages.old work.now) rows.now.items }
@@ -84,11 +82,7 @@ fn tune_at<D: Disk>(
         → (ahead : List Part) (tunes : List Tune) → IsTunes layout tunes
         → HoldsTunes (stand pages.old work.now) ahead tunes rows.now.items
         → IsTuneAt place tunes (Some tune)) }
-    ensures fits { OnOk result (Fits pages.new work.now) }
-    ensures stand { OnOk result (SameStand (HonestAt D.honest pages.new.disk)
-        (stand pages.old work.now) (stand pages.new work.now)) }
-    ensures looks { LooksAt D.honest D.failures D.state result pages.old pages.new }
-    ensures answer { AnswersRead result pages.old.closed pages.new.closed }
+    ensures reads { Reads D.Disk result work.now pages.old pages.new }
 {
     let row = rows.at(place);
     match read_tune_where(alloc, pages, work, layout, row.first, true) {
@@ -107,8 +101,7 @@ fn old_tune<D: Disk>(
     rows: &TieredVector<Row>,
     change: &Change,
 ) -> Result<Option<(u32, TuneText)>, Fault>
-    requires open { pages.old.closed ≡ false }
-    requires fits { Fits pages.old work.now }
+    requires work { IsInProgress pages.old work.now }
     requires accept { RowsAccept change.now rows.now.items }
     requires holds { HonestAt D.honest pages.old.disk
         → HoldsTunesWithin layout (stand pages.old work.now) rows.now.items }
@@ -116,11 +109,7 @@ fn old_tune<D: Disk>(
         → (ahead : List Part) (tunes : List Tune) → IsTunes layout tunes
         → HoldsTunes (stand pages.old work.now) ahead tunes rows.now.items
         → IsOldTune change.now tunes old) }
-    ensures fits { OnOk result (Fits pages.new work.now) }
-    ensures stand { OnOk result (SameStand (HonestAt D.honest pages.new.disk)
-        (stand pages.old work.now) (stand pages.new work.now)) }
-    ensures looks { LooksAt D.honest D.failures D.state result pages.old pages.new }
-    ensures answer { AnswersRead result pages.old.closed pages.new.closed }
+    ensures reads { Reads D.Disk result work.now pages.old pages.new }
 {
     match old_place(rows, change) {
         Some(place) => match tune_at(alloc, pages, work, layout, rows, place) {
@@ -202,8 +191,7 @@ pub(crate) fn text_runs<D: Disk>(
     rows: &TieredVector<Row>,
     change: &Change,
 ) -> Result<TextRuns, Fault>
-    requires open { pages.old.closed ≡ false }
-    requires fits { Fits pages.old work.now }
+    requires work { IsInProgress pages.old work.now }
     requires accept { RowsAccept change.now rows.now.items }
     requires holds { HonestAt D.honest pages.old.disk
         → HoldsTunesWithin layout (stand pages.old work.now) rows.now.items }
@@ -220,11 +208,7 @@ pub(crate) fn text_runs<D: Disk>(
     ensures come { IfOk result (λ runs. IsSomeRun runs.come) }
     ensures gone_notes { IfOk result (λ runs. IsByNotes (note_count notes) runs.gone) }
     ensures come_notes { IfOk result (λ runs. IsByNotes (note_count notes) runs.come) }
-    ensures fits { OnOk result (Fits pages.new work.now) }
-    ensures stand { OnOk result (SameStand (HonestAt D.honest pages.new.disk)
-        (stand pages.old work.now) (stand pages.new work.now)) }
-    ensures looks { LooksAt D.honest D.failures D.state result pages.old pages.new }
-    ensures answer { AnswersRead result pages.old.closed pages.new.closed }
+    ensures reads { Reads D.Disk result work.now pages.old pages.new }
 {
     let old = match old_tune(alloc, pages, work, layout, rows, change) {
         Ok(old) => old,
@@ -243,20 +227,17 @@ fn take_runs<D: Disk>(
     searches: &mut SearchIndexes,
     gone: &Option<Runs>,
 ) -> Result<(), Fault>
-    requires open { pages.old.closed ≡ false }
-    requires fits { Fits pages.old work.old }
+    requires work { IsInProgress pages.old work.old }
     requires notes { IsByNotes searches.old.notes gone.now }
     requires holds { HonestAt D.honest pages.old.disk
         → HoldsSomeTexts (stand pages.old work.old) searches.old }
-    ensures fits { OnOk result (Fits pages.new work.new) }
     ensures notes { OnOk result (searches.new.notes ≡ searches.old.notes) }
     ensures lays { OnOk result (HonestAt D.honest pages.new.disk → TakesTexts
         (stand pages.old work.old) (stand pages.new work.new) searches.old searches.new gone.now) }
     ensures balance { OnOk result (free_pages (stand pages.old work.old).used
         + leaf_count searches.old ≡ free_pages (stand pages.new work.new).used
         + leaf_count searches.new) }
-    ensures looks { LooksAt D.honest D.failures D.state result pages.old pages.new }
-    ensures answer { AnswersEdit result pages.new.closed ⊥ }
+    ensures edits { Edits D.Disk result ⊥ work.new pages.old pages.new }
 {
     let Some(gone) = gone else {
         return Ok(());
@@ -275,22 +256,20 @@ fn put_runs<D: Disk>(
     searches: &mut SearchIndexes,
     come: &Option<Runs>,
 ) -> Result<(), Fault>
-    requires open { pages.old.closed ≡ false }
-    requires fits { Fits pages.old work.old }
+    requires work { IsInProgress pages.old work.old }
     requires holds { HonestAt D.honest pages.old.disk
         → HoldsSomeTexts (stand pages.old work.old) searches.old }
     requires come { IsSomeRun come.now }
     requires notes { IsByNotes searches.old.notes come.now }
-    ensures fits { OnOk result (Fits pages.new work.new) }
     ensures notes { OnOk result (searches.new.notes ≡ searches.old.notes) }
     ensures lays { OnOk result (HonestAt D.honest pages.new.disk → PutsTexts
         (stand pages.old work.old) (stand pages.new work.new) searches.old searches.new come.now) }
     ensures balance { OnOk result (free_pages (stand pages.old work.old).used
         + leaf_count searches.old ≡ free_pages (stand pages.new work.new).used
         + leaf_count searches.new) }
-    ensures looks { LooksAt D.honest D.failures D.state result pages.old pages.new }
-    ensures answer { AnswersEdit result pages.new.closed (HonestAt D.honest pages.new.disk
-        → IsFullForTexts (stand pages.old work.old) searches.old come.now) }
+    ensures edits { Edits D.Disk result (HonestAt D.honest pages.new.disk
+        → IsFullForTexts (stand pages.old work.old) searches.old come.now) work.new pages.old
+        pages.new }
 {
     let Some(come) = come else {
         return Ok(());
@@ -310,14 +289,12 @@ pub(crate) fn change_searches<D: Disk>(
     searches: &mut SearchIndexes,
     runs: &TextRuns,
 ) -> Result<SearchFirsts, Fault>
-    requires open { pages.old.closed ≡ false }
-    requires fits { Fits pages.old work.old }
+    requires work { IsInProgress pages.old work.old }
     requires holds { HonestAt D.honest pages.old.disk
         → HoldsTextsWith (stand pages.old work.old) searches.old runs.now.gone }
     requires come { IsSomeRun runs.now.come }
     requires gone_notes { IsByNotes searches.old.notes runs.now.gone }
     requires come_notes { IsByNotes searches.old.notes runs.now.come }
-    ensures fits { OnOk result (Fits pages.new work.new) }
     ensures notes { OnOk result (searches.new.notes ≡ searches.old.notes) }
     ensures lays { OnOk result (HonestAt D.honest pages.new.disk → LaysTexts
         (stand pages.old work.old) (stand pages.new work.new) searches.old searches.new
@@ -330,8 +307,7 @@ pub(crate) fn change_searches<D: Disk>(
         → HoldsTexts (stand pages.old work.old) searches.old before after parts tunes
         → TakesAtMost (search_pages (length (others ++ more))) result
         (stand pages.old work.old) (stand pages.new work.new) }
-    ensures looks { LooksAt D.honest D.failures D.state result pages.old pages.new }
-    ensures answer { AnswersLay result pages.new.closed }
+    ensures edits { Edits D.Disk result (Unit {0}) work.new pages.old pages.new }
 {
     match take_runs(alloc, pages, work, searches, &runs.gone) {
         Ok(()) => {}

@@ -1,9 +1,8 @@
 // The text of a tune, read from its pages.
-ghost use Rattle.std.specs.Prelude.{◌≡◌, ℕ, List, false, IfNone, IfOk, IfSome, OnOk};
+ghost use Rattle.std.specs.Prelude.{◌≡◌, ℕ, List, IfNone, IfOk, IfSome};
 ghost use Rattle.tune_pages.specs.Kept.{HonestAt};
-ghost use Rattle.tune_pages.specs.Faults.{AnswersRead};
-ghost use Rattle.tune_pages.specs.PageLooks.{LooksAt, SameStand};
-ghost use Rattle.tune_pages.specs.Work.{stand, Fits};
+ghost use Rattle.tune_pages.specs.Work.{stand};
+ghost use Rattle.tune_pages.specs.Progress.{IsInProgress, Reads};
 ghost use Rattle.tune_contents.specs.Texts.{HoldsSomeText, HoldsText, IsTextOf};
 
 use abc_fields::{ByteText, TuneText};
@@ -27,18 +26,13 @@ pub fn read_tune<D: Disk>(
     layout: Layout,
     first: u32,
 ) -> Result<TuneText, Fault>
-    requires open { pages.old.closed ≡ false }
-    requires fits { Fits pages.old work.now }
+    requires work { IsInProgress pages.old work.now }
     requires there { HonestAt D.honest pages.old.disk
         → HoldsSomeText layout (stand pages.old work.now) first }
     ensures text { IfOk result (λ text. HonestAt D.honest pages.new.disk → (revision : ℕ)
         (other : List ℕ) → HoldsText layout (stand pages.old work.now) first revision other
         → text ≡ other) }
-    ensures fits { OnOk result (Fits pages.new work.now) }
-    ensures stand { OnOk result (SameStand (HonestAt D.honest pages.new.disk)
-        (stand pages.old work.now) (stand pages.new work.now)) }
-    ensures looks { LooksAt D.honest D.failures D.state result pages.old pages.new }
-    ensures answer { AnswersRead result pages.old.closed pages.new.closed }
+    ensures reads { Reads D.Disk result work.now pages.old pages.new }
 {
     let keeps = pages.is_asked_again(first);
     read_tune_where(alloc, pages, work, layout, first, keeps)
@@ -53,18 +47,13 @@ pub(crate) fn read_tune_where<D: Disk>(
     first: u32,
     keeps: bool,
 ) -> Result<TuneText, Fault>
-    requires open { pages.old.closed ≡ false }
-    requires fits { Fits pages.old work.now }
+    requires work { IsInProgress pages.old work.now }
     requires there { HonestAt D.honest pages.old.disk
         → HoldsSomeText layout (stand pages.old work.now) first }
     ensures text { IfOk result (λ text. HonestAt D.honest pages.new.disk → (revision : ℕ)
         (other : List ℕ) → HoldsText layout (stand pages.old work.now) first revision other
         → text ≡ other) }
-    ensures fits { OnOk result (Fits pages.new work.now) }
-    ensures stand { OnOk result (SameStand (HonestAt D.honest pages.new.disk)
-        (stand pages.old work.now) (stand pages.new work.now)) }
-    ensures looks { LooksAt D.honest D.failures D.state result pages.old pages.new }
-    ensures answer { AnswersRead result pages.old.closed pages.new.closed }
+    ensures reads { Reads D.Disk result work.now pages.old pages.new }
 {
     let bytes = pages.walk_chain(work, first, keeps)?;
     match text_of(alloc, layout, &bytes) {

@@ -1,10 +1,9 @@
 // Layout 2, laid on the pages of an archive of layout 1.
 ghost use Rattle.std.specs.Prelude.{◌≡◌, ℕ, List, false, length, IfOk, OnOk};
-ghost use Rattle.tune_pages.specs.Faults.{AnswersRead};
 ghost use Rattle.tune_pages.specs.FreePages.{TakesAtMost};
 ghost use Rattle.tune_pages.specs.Kept.{HonestAt};
-ghost use Rattle.tune_pages.specs.PageLooks.{LooksAt, SameStand};
-ghost use Rattle.tune_pages.specs.Work.{stand, Fits};
+ghost use Rattle.tune_pages.specs.Work.{stand};
+ghost use Rattle.tune_pages.specs.Progress.{IsInProgress, Reads};
 ghost use Rattle.tune_parts.specs.Parts.{Part};
 ghost use Rattle.tune_search.specs.IncipitRuns.{AreIncipitsOf, HoldsIncipits};
 ghost use Rattle.tune_search.specs.SearchPages.{AreListed, firsts_in};
@@ -12,7 +11,7 @@ ghost use Rattle.tune_search.specs.Searches.{HoldsTexts, SearchParts};
 ghost use Rattle.tune_store.specs.State.{State, IsState};
 ghost use Rattle.tune_store.specs.TuneSteps.{upgraded_state};
 ghost use Rattle.tune_store.specs.declared.layout.Layout.TheVariants.{One, Two};
-ghost use Rattle.tune_contents.specs.LayAnswers.{AnswersLay};
+ghost use Rattle.tune_index.specs.IndexAnswers.{Edits};
 ghost use Rattle.tune_contents.specs.Claimed.{AreRows};
 ghost use Rattle.tune_contents.specs.Holds.{HoldsContents, HoldsMemory, HoldsSomeState};
 ghost use Rattle.tune_contents.specs.Most.{most_part_pages};
@@ -44,19 +43,14 @@ fn incipits_of<D: Disk>(
     layout: Layout,
     rows: &TieredVector<Row>,
 ) -> Result<IncipitRun, Fault>
-    requires open { pages.old.closed ≡ false }
-    requires fits { Fits pages.old work.now }
+    requires work { IsInProgress pages.old work.now }
     requires rows { AreRows layout rows.now.items }
     requires holds { HonestAt D.honest pages.old.disk
         → HoldsTunesWithin layout (stand pages.old work.now) rows.now.items }
     ensures some { IfOk result (λ run. (tunes : List (ℕ × List ℕ)) × AreIncipitsOf tunes run) }
     ensures run { IfOk result (λ run. HonestAt D.honest pages.new.disk
         → AreOfTunes layout (stand pages.old work.now) rows.now.items run) }
-    ensures fits { OnOk result (Fits pages.new work.now) }
-    ensures stand { OnOk result (SameStand (HonestAt D.honest pages.new.disk)
-        (stand pages.old work.now) (stand pages.new work.now)) }
-    ensures looks { LooksAt D.honest D.failures D.state result pages.old pages.new }
-    ensures answer { AnswersRead result pages.old.closed pages.new.closed }
+    ensures reads { Reads D.Disk result work.now pages.old pages.new }
 {
     let Ok(mut run) = IncipitRun::with_capacity(alloc, rows.len()) else {
         return Err(Fault::OutOfMemory);
@@ -83,13 +77,11 @@ fn lengthen<D: Disk>(
     searches: &mut SearchIndexes,
     run: &IncipitRun,
 ) -> Result<SearchFirsts, Fault>
-    requires open { pages.old.closed ≡ false }
-    requires fits { Fits pages.old work.old }
+    requires work { IsInProgress pages.old work.old }
     requires notes { searches.old.notes ≡ 8 }
     requires run { (tunes : List (ℕ × List ℕ)) × AreIncipitsOf tunes run.now }
     requires holds { HonestAt D.honest pages.old.disk
         → HoldsIncipits (stand pages.old work.old) searches.old run.now }
-    ensures fits { OnOk result (Fits pages.new work.new) }
     ensures notes { OnOk result (searches.new.notes ≡ 12) }
     ensures lays { OnOk result (HonestAt D.honest pages.new.disk → LengthensTexts
         (stand pages.old work.old) (stand pages.new work.new) searches.old searches.new
@@ -102,8 +94,7 @@ fn lengthen<D: Disk>(
         → HoldsTexts (stand pages.old work.old) searches.old before after parts tunes
         → TakesAtMost (search_pages (length tunes)) result
         (stand pages.old work.old) (stand pages.new work.new) }
-    ensures looks { LooksAt D.honest D.failures D.state result pages.old pages.new }
-    ensures answer { AnswersLay result pages.new.closed }
+    ensures edits { Edits D.Disk result (Unit {0}) work.new pages.old pages.new }
 {
     match searches.lengthen_incipits(alloc, pages, work, run) {
         Ok(()) => {}
@@ -145,8 +136,7 @@ pub fn upgrade<D: Disk>(
     work: &mut Work,
     contents: &Contents,
 ) -> Result<Next, Fault>
-    requires open { pages.old.closed ≡ false }
-    requires fits { Fits pages.old work.old }
+    requires work { IsInProgress pages.old work.old }
     requires layout { contents.now.layout ≡ One }
     requires rows { AreRows One contents.now.rows.items }
     requires holds { HonestAt D.honest pages.old.disk
@@ -160,9 +150,7 @@ pub fn upgrade<D: Disk>(
     ensures layout { IfOk result (λ next. next.layout ≡ Two) }
     ensures room { IfOk result (λ next.
         FitsRows next.rows contents.now.rows.items contents.now.rows.room) }
-    ensures fits { OnOk result (Fits pages.new work.new) }
-    ensures looks { LooksAt D.honest D.failures D.state result pages.old pages.new }
-    ensures answer { AnswersLay result pages.new.closed }
+    ensures edits { Edits D.Disk result (Unit {0}) work.new pages.old pages.new }
     ensures takes { HonestAt D.honest pages.new.disk → (state : State)
         → HoldsContents (stand pages.old work.old) contents.now state → IsState state
         → TakesAtMost (most_part_pages One) result (stand pages.old work.old)

@@ -1,7 +1,7 @@
 -- What an index stands for in the pages of a work.
 use Rattle.std.specs.Prelude.{◌≡◌, ℕ, ◌+◌, List, [], ◌∷◌, ◌++◌, length, Bool, true}
 use Rattle.tune_pages.specs.Faults.{free_pages}
-use Rattle.tune_pages.specs.Frame.{Apart, image_at}
+use Rattle.tune_pages.specs.Frame.{Apart, TradesPages, image_at}
 use Rattle.tune_pages.specs.Stand.{AllUsed, Stand}
 use Rattle.index_keys.specs.Entries.{AllFit, Entry, IsRising}
 use Rattle.tune_index.specs.Leaves.{IsLeaf, leaf_in, slice_entry}
@@ -53,3 +53,11 @@ pub record IsIndex (width : ℕ) (all : Stand) (shape : Shape) : Type 0 where
 abbrev pub KeepsBalance : Stand → Stand → List ℕ → List ℕ → Type 0
 KeepsBalance old new before after =
     free_pages old.used + length before ≡ free_pages new.used + length after
+
+-- What a change of an index leaves: of its list, of its pages, where those were its own before, and
+-- of how many are free.
+pub record Reshapes (Owned : Type 0) (old new : Stand) (was is : Shape) : Type 0 where
+  pub list : KeepsList was is
+  pub pages : Owned → HasPages new is.pages
+  pub trades : Owned → TradesPages was.pages is.pages old new
+  pub balance : KeepsBalance old new was.pages is.pages

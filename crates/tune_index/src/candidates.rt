@@ -1,14 +1,13 @@
 // What is looked for in an index, and leaves as they are read.
 ghost use Rattle.std.specs.Prelude.{◌≡◌, ◌↔◌, ◌≤◌, ◌<◌, ◌++◌, length, IfOk, IsTrue, OnOk, false};
 ghost use Rattle.std.specs.Prelude.{slice_index};
-ghost use Rattle.tune_pages.specs.Faults.{AnswersRead};
 ghost use Rattle.tune_pages.specs.Frame.{InUse, image_at};
 ghost use Rattle.tune_pages.specs.Kept.{HonestAt};
-ghost use Rattle.tune_pages.specs.PageLooks.{LooksAt, SameStand};
-ghost use Rattle.tune_pages.specs.Work.{stand, Fits};
+ghost use Rattle.tune_pages.specs.Progress.{IsInProgress, Reads};
+ghost use Rattle.tune_pages.specs.Work.{stand};
 ghost use Rattle.index_keys.specs.Entries.{AllFit, IsRising, rank, values_within};
 ghost use Rattle.tune_index.specs.Indexes.{HasPages, IsIndex, entries_of};
-ghost use Rattle.tune_index.specs.Leaves.{IsLeaf, capacity, leaf_in, slice_entry};
+ghost use Rattle.tune_index.specs.Leaves.{IsLeaf, leaf_in, slice_entry};
 
 use crate::index::{Index, leaf_count, leaf_for};
 use crate::leaf::{add_values_of, is_leaf};
@@ -26,17 +25,12 @@ fn read_leaf_image<D: Disk>(
     page: u32,
     image: &mut PageImage,
 ) -> Result<(), Fault>
-    requires open { pages.old.closed ≡ false }
-    requires fits { Fits pages.old work.now }
+    requires work { IsInProgress pages.old work.now }
     requires in_use { HonestAt D.honest pages.old.disk → InUse (stand pages.old work.now) page }
     ensures image { OnOk result (HonestAt D.honest pages.new.disk
         → image.new.bytes ≡ image_at (stand pages.old work.now) page) }
     ensures in_use { OnOk result (InUse (stand pages.new work.now) page) }
-    ensures fits { OnOk result (Fits pages.new work.now) }
-    ensures stand { OnOk result (SameStand (HonestAt D.honest pages.new.disk)
-        (stand pages.old work.now) (stand pages.new work.now)) }
-    ensures looks { LooksAt D.honest D.failures D.state result pages.old pages.new }
-    ensures answer { AnswersRead result pages.old.closed pages.new.closed }
+    ensures reads { Reads D.Disk result work.now pages.old pages.new }
 {
     if page == 0 || !pages.in_use(work, page) {
         return Err(pages.close());
@@ -53,8 +47,7 @@ pub(crate) fn read_page_leaf<D: Disk, const W: usize>(
     image: &mut PageImage,
 ) -> Result<(), Fault>
     requires width { W ≤ 4090 }
-    requires open { pages.old.closed ≡ false }
-    requires fits { Fits pages.old work.now }
+    requires work { IsInProgress pages.old work.now }
     requires in_use { HonestAt D.honest pages.old.disk → InUse (stand pages.old work.now) page }
     requires form { HonestAt D.honest pages.old.disk
         → IsLeaf W (image_at (stand pages.old work.now) page) }
@@ -62,11 +55,7 @@ pub(crate) fn read_page_leaf<D: Disk, const W: usize>(
         → image.new.bytes ≡ image_at (stand pages.old work.now) page) }
     ensures form { OnOk result (IsLeaf W image.new.bytes) }
     ensures in_use { OnOk result (InUse (stand pages.new work.now) page) }
-    ensures fits { OnOk result (Fits pages.new work.now) }
-    ensures stand { OnOk result (SameStand (HonestAt D.honest pages.new.disk)
-        (stand pages.old work.now) (stand pages.new work.now)) }
-    ensures looks { LooksAt D.honest D.failures D.state result pages.old pages.new }
-    ensures answer { AnswersRead result pages.old.closed pages.new.closed }
+    ensures reads { Reads D.Disk result work.now pages.old pages.new }
 {
     if let Err(fault) = read_leaf_image(pages, work, page, image) {
         return Err(fault);
@@ -88,8 +77,7 @@ fn add_page_values<D: Disk, const W: usize>(
     values: &mut Vec<u32>,
 ) -> Result<(), Fault>
     requires width { W ≤ 4090 }
-    requires open { pages.old.closed ≡ false }
-    requires fits { Fits pages.old work.now }
+    requires work { IsInProgress pages.old work.now }
     requires in_use { HonestAt D.honest pages.old.disk → InUse (stand pages.old work.now) page }
     requires form { HonestAt D.honest pages.old.disk
         → IsLeaf W (image_at (stand pages.old work.now) page) }
@@ -97,11 +85,7 @@ fn add_page_values<D: Disk, const W: usize>(
         OnOk result (HonestAt D.honest pages.new.disk → IsRising leaf → AllFit W leaf
         → values.new.items
         ≡ values.old.items ++ values_within low.now high.now leaf) }
-    ensures fits { OnOk result (Fits pages.new work.now) }
-    ensures stand { OnOk result (SameStand (HonestAt D.honest pages.new.disk)
-        (stand pages.old work.now) (stand pages.new work.now)) }
-    ensures looks { LooksAt D.honest D.failures D.state result pages.old pages.new }
-    ensures answer { AnswersRead result pages.old.closed pages.new.closed }
+    ensures reads { Reads D.Disk result work.now pages.old pages.new }
 {
     let mut image = PageImage::blank();
     if let Err(fault) = read_leaf_image(pages, work, page, &mut image) {
@@ -136,8 +120,7 @@ fn add_leaf_values<D: Disk, const W: usize>(
     high: &IndexKey<W>,
     values: &mut Vec<u32>,
 ) -> Result<(), Fault>
-    requires open { pages.old.closed ≡ false }
-    requires fits { Fits pages.old work.now }
+    requires work { IsInProgress pages.old work.now }
     requires pages { HonestAt D.honest pages.old.disk
         → HasPages (stand pages.old work.now) index.now.pages }
     requires index { HonestAt D.honest pages.old.disk
@@ -146,11 +129,7 @@ fn add_leaf_values<D: Disk, const W: usize>(
     ensures values { OnOk result (HonestAt D.honest pages.new.disk → values.new.items
         ≡ values.old.items ++ values_within low.now high.now
         (leaf_in W (image_at (stand pages.old work.now) (slice_index index.now.pages place)))) }
-    ensures fits { OnOk result (Fits pages.new work.now) }
-    ensures stand { OnOk result (SameStand (HonestAt D.honest pages.new.disk)
-        (stand pages.old work.now) (stand pages.new work.now)) }
-    ensures looks { LooksAt D.honest D.failures D.state result pages.old pages.new }
-    ensures answer { AnswersRead result pages.old.closed pages.new.closed }
+    ensures reads { Reads D.Disk result work.now pages.old pages.new }
 {
     let page = index.pages[place];
     match add_page_values(pages, work, page, low, high, values) {
@@ -174,8 +153,7 @@ impl<const W: usize> Index<W> {
         low: &IndexKey<W>,
         high: &IndexKey<W>,
     ) -> Result<Vec<u32>, Fault>
-        requires open { pages.old.closed ≡ false }
-        requires fits { Fits pages.old work.now }
+        requires work { IsInProgress pages.old work.now }
         requires pages { HonestAt D.honest pages.old.disk
             → HasPages (stand pages.old work.now) self.now.pages }
         requires index { HonestAt D.honest pages.old.disk
@@ -183,11 +161,7 @@ impl<const W: usize> Index<W> {
         ensures values { IfOk result (λ values. HonestAt D.honest pages.new.disk → values.items
             ≡ values_within low.now high.now
             (entries_of W (stand pages.old work.now) self.now.pages)) }
-        ensures fits { OnOk result (Fits pages.new work.now) }
-        ensures stand { OnOk result (SameStand (HonestAt D.honest pages.new.disk)
-            (stand pages.old work.now) (stand pages.new work.now)) }
-        ensures looks { LooksAt D.honest D.failures D.state result pages.old pages.new }
-        ensures answer { AnswersRead result pages.old.closed pages.new.closed }
+        ensures reads { Reads D.Disk result work.now pages.old pages.new }
     {
         let mut values = Vec::new(alloc);
         let leaves = leaf_count(self);

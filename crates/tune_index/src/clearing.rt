@@ -3,10 +3,10 @@ ghost use Rattle.std.specs.Prelude.{◌≡◌, ◌+◌, [], false, length, IfOk,
 ghost use Rattle.tune_pages.specs.Faults.{free_pages};
 ghost use Rattle.tune_pages.specs.Frame.{TradesPages};
 ghost use Rattle.tune_pages.specs.Kept.{HonestAt};
-ghost use Rattle.tune_pages.specs.PageLooks.{LooksAt};
-ghost use Rattle.tune_pages.specs.Work.{stand, Fits};
-ghost use Rattle.tune_index.specs.IndexAnswers.{AnswersChange, AnswersEdit};
-ghost use Rattle.tune_index.specs.Indexes.{HasPages, KeepsBalance, KeepsList};
+ghost use Rattle.tune_pages.specs.Work.{stand};
+ghost use Rattle.tune_index.specs.IndexAnswers.{ChangesWork, Edits};
+ghost use Rattle.tune_index.specs.Indexes.{HasPages, KeepsList, Reshapes};
+ghost use Rattle.tune_pages.specs.Progress.{IsInProgress};
 
 use crate::edit::drop_leaf;
 use crate::index::{Index, leaf_count, leaf_page};
@@ -20,20 +20,14 @@ fn drop_leaves<D: Disk, const W: usize>(
     work: &mut Work,
     index: &mut Index<W>,
 ) -> Result<bool, Fault>
-    requires open { pages.now.closed ≡ false }
-    requires fits { Fits pages.now work.old }
-    ensures fits { OnOk result (Fits pages.now work.new) }
-    ensures list { OnOk result (KeepsList index.old index.new) }
+    requires work { IsInProgress pages.now work.old }
+    ensures shape { OnOk result (Reshapes (HasPages (stand pages.now work.old) index.old.pages)
+        (stand pages.now work.old) (stand pages.now work.new) index.old index.new) }
     ensures all { IfOk result (λ all. HasPages (stand pages.now work.old) index.old.pages
         → IsTrue all) }
     ensures leaves { IfOk result (λ all. IsTrue all
         → (index.new.pages ≡ []) × (index.new.heads ≡ [])) }
-    ensures trades { OnOk result (HasPages (stand pages.now work.old) index.old.pages
-        → TradesPages index.old.pages index.new.pages
-        (stand pages.now work.old) (stand pages.now work.new)) }
-    ensures balance { OnOk result (KeepsBalance (stand pages.now work.old)
-        (stand pages.now work.new) index.old.pages index.new.pages) }
-    ensures answer { AnswersChange result ⊥ }
+    ensures work { ChangesWork result ⊥ pages.now work.new }
 {
     let mut rest = leaf_count(index);
     while rest > 0 {
@@ -60,11 +54,9 @@ impl<const W: usize> Index<W> {
     /// `OutOfMemory`; `Device` where a page is not in use, which an honest disk never shows: the
     /// pages are then closed. The index and the work are then to be dropped.
     pub fn clear<D: Disk>(&mut self, pages: &mut Pages<D>, work: &mut Work) -> Result<(), Fault>
-        requires open { pages.old.closed ≡ false }
-        requires fits { Fits pages.old work.old }
+        requires work { IsInProgress pages.old work.old }
         requires pages { HonestAt D.honest pages.old.disk
             → HasPages (stand pages.old work.old) self.old.pages }
-        ensures fits { OnOk result (Fits pages.new work.new) }
         ensures list { OnOk result (KeepsList self.old self.new) }
         ensures leaves { OnOk result ((self.new.pages ≡ []) × (self.new.heads ≡ [])) }
         ensures trades { OnOk result (HonestAt D.honest pages.new.disk
@@ -73,8 +65,7 @@ impl<const W: usize> Index<W> {
         ensures balance { OnOk result (free_pages (stand pages.new work.new).used
             ≡ free_pages (stand pages.old work.old).used + length self.old.pages) }
         ensures disk { pages.new.disk ≡ pages.old.disk }
-        ensures looks { LooksAt D.honest D.failures D.state result pages.old pages.new }
-        ensures answer { AnswersEdit result pages.new.closed ⊥ }
+        ensures edits { Edits D.Disk result ⊥ work.new pages.old pages.new }
     {
         match drop_leaves(pages, work, self) {
             Ok(true) => Ok(()),

@@ -1,15 +1,16 @@
 // Leaves written, put in place of others, added and taken out.
-ghost use Rattle.std.specs.Prelude.{◌≡◌, false, true, ℕ, List, ◌≤◌, ◌<◌, ◌+◌, ◌*◌, ◌++◌, length};
+ghost use Rattle.std.specs.Prelude.{◌≡◌, false, ℕ, List, ◌≤◌, ◌<◌, ◌+◌, ◌*◌, ◌++◌, length};
 ghost use Rattle.std.specs.Prelude.{slice_index, slice_set, take, drop, OnOk};
 ghost use Rattle.std.specs.List.{insert, remove};
 ghost use Rattle.tune_pages.specs.Faults.{free_pages};
-ghost use Rattle.tune_pages.specs.Frame.{InUse, Puts, TradesPages, image_at};
-ghost use Rattle.tune_pages.specs.Work.{stand, Fits};
+ghost use Rattle.tune_pages.specs.Frame.{InUse, Puts, image_at};
+ghost use Rattle.tune_pages.specs.Work.{stand};
 ghost use Rattle.index_keys.specs.Entries.{Entry};
-ghost use Rattle.tune_index.specs.IndexAnswers.{AnswersChange};
-ghost use Rattle.tune_index.specs.Indexes.{HasPages, KeepsBalance, KeepsList};
+ghost use Rattle.tune_index.specs.IndexAnswers.{ChangesWork};
+ghost use Rattle.tune_index.specs.Indexes.{HasPages, KeepsList, Reshapes};
 ghost use Rattle.tune_index.specs.Inside.LeafLists.{HasLeaves, joined_leaves};
 ghost use Rattle.tune_index.specs.Leaves.{IsLeaf, capacity, leaf_in, slice_entry};
+ghost use Rattle.tune_pages.specs.Progress.{IsInProgress};
 
 use crate::index::{Index, leaf_count, leaf_page};
 use crate::leaf::capacity_of;
@@ -27,11 +28,9 @@ fn put_leaf<D: Disk, const W: usize>(
     page: u32,
     image: &PageImage,
 ) -> Result<(), Fault>
-    requires open { pages.now.closed ≡ false }
-    requires fits { Fits pages.now work.old }
+    requires work { IsInProgress pages.now work.old }
     requires in_use { InUse (stand pages.now work.old) page }
     requires form { IsLeaf W image.now.bytes }
-    ensures fits { OnOk result (Fits pages.now work.new) }
     ensures leaf { OnOk result (leaf_in W (image_at (stand pages.now work.new) page)
         ≡ leaf_in W image.now.bytes) }
     ensures form { OnOk result (IsLeaf W (image_at (stand pages.now work.new) page)) }
@@ -39,7 +38,7 @@ fn put_leaf<D: Disk, const W: usize>(
         ((stand pages.now work.new).used ≡ (stand pages.now work.old).used) }
     ensures puts { OnOk result (Puts (stand pages.now work.old) (stand pages.now work.new) page
         (image_at (stand pages.now work.new) page)) }
-    ensures answer { AnswersChange result ⊥ }
+    ensures work { ChangesWork result ⊥ pages.now work.new }
 {
     // For the proof.
     law_of_works();
@@ -56,12 +55,10 @@ fn write_page_leaf<D: Disk, const W: usize>(
     leaf: &[(IndexKey<W>, u32)],
 ) -> Result<(), Fault>
     requires width { W ≤ 4090 }
-    requires open { pages.now.closed ≡ false }
-    requires fits { Fits pages.now work.old }
+    requires work { IsInProgress pages.now work.old }
     requires in_use { InUse (stand pages.now work.old) page }
     requires some { 1 ≤ length leaf.now }
     requires within { length leaf.now ≤ capacity W }
-    ensures fits { OnOk result (Fits pages.now work.new) }
     ensures leaf { OnOk result
         (leaf_in W (image_at (stand pages.now work.new) page) ≡ leaf.now) }
     ensures form { OnOk result (IsLeaf W (image_at (stand pages.now work.new) page)) }
@@ -69,7 +66,7 @@ fn write_page_leaf<D: Disk, const W: usize>(
         ((stand pages.now work.new).used ≡ (stand pages.now work.old).used) }
     ensures puts { OnOk result (Puts (stand pages.now work.old) (stand pages.now work.new) page
         (image_at (stand pages.now work.new) page)) }
-    ensures answer { AnswersChange result ⊥ }
+    ensures work { ChangesWork result ⊥ pages.now work.new }
 {
     let mut image = PageImage::blank();
     write_leaf(leaf, &mut image);
@@ -84,12 +81,10 @@ fn replace_leaf<D: Disk, const W: usize>(
     place: usize,
     image: &PageImage,
 ) -> Result<(), Fault>
-    requires open { pages.now.closed ≡ false }
-    requires fits { Fits pages.now work.old }
+    requires work { IsInProgress pages.now work.old }
     requires place { place < length index.old.pages }
     requires in_use { InUse (stand pages.now work.old) (slice_index index.old.pages place) }
     requires form { IsLeaf W image.now.bytes }
-    ensures fits { OnOk result (Fits pages.now work.new) }
     ensures pages { OnOk result (index.new.pages ≡ index.old.pages) }
     ensures heads { OnOk result (index.new.heads
         ≡ slice_set index.old.heads place (slice_entry (leaf_in W image.now.bytes) 0)) }
@@ -105,7 +100,7 @@ fn replace_leaf<D: Disk, const W: usize>(
     ensures puts { let page = slice_index index.old.pages place in
         OnOk result (Puts (stand pages.now work.old) (stand pages.now work.new) page
         (image_at (stand pages.now work.new) page)) }
-    ensures answer { AnswersChange result ⊥ }
+    ensures work { ChangesWork result ⊥ pages.now work.new }
 {
     let page = index.pages[place];
     let head = first_in_image(image);
@@ -156,27 +151,19 @@ pub(crate) fn set_image<D: Disk, const W: usize>(
     place: usize,
     image: &PageImage,
 ) -> Result<(), Fault>
-    requires open { pages.now.closed ≡ false }
-    requires fits { Fits pages.now work.old }
+    requires work { IsInProgress pages.now work.old }
     requires place { place < length index.old.pages }
     requires in_use { InUse (stand pages.now work.old) (slice_index index.old.pages place) }
     requires form { IsLeaf W image.now.bytes }
-    ensures fits { OnOk result (Fits pages.now work.new) }
     ensures same { OnOk result (index.new.pages ≡ index.old.pages) }
-    ensures list { OnOk result (KeepsList index.old index.new) }
-    ensures pages { OnOk result (HasPages (stand pages.now work.old) index.old.pages
-        → HasPages (stand pages.now work.new) index.new.pages) }
-    ensures trades { OnOk result (HasPages (stand pages.now work.old) index.old.pages
-        → TradesPages index.old.pages index.new.pages
-        (stand pages.now work.old) (stand pages.now work.new)) }
+    ensures shape { OnOk result (Reshapes (HasPages (stand pages.now work.old) index.old.pages)
+        (stand pages.now work.old) (stand pages.now work.new) index.old index.new) }
     ensures leaves { OnOk result (HasPages (stand pages.now work.old) index.old.pages
         → (leaves : List (List Entry))
         → HasLeaves W (stand pages.now work.old) index.old leaves
         → HasLeaves W (stand pages.now work.new) index.new
         (slice_set leaves place (leaf_in W image.now.bytes))) }
-    ensures balance { OnOk result (KeepsBalance (stand pages.now work.old)
-        (stand pages.now work.new) index.old.pages index.new.pages) }
-    ensures answer { AnswersChange result ⊥ }
+    ensures work { ChangesWork result ⊥ pages.now work.new }
 {
     replace_leaf(pages, work, index, place, image)?;
     Ok(())
@@ -190,27 +177,19 @@ fn set_leaf<D: Disk, const W: usize>(
     place: usize,
     leaf: &[(IndexKey<W>, u32)],
 ) -> Result<(), Fault>
-    requires open { pages.now.closed ≡ false }
-    requires fits { Fits pages.now work.old }
+    requires work { IsInProgress pages.now work.old }
     requires place { place < length index.old.pages }
     requires in_use { InUse (stand pages.now work.old) (slice_index index.old.pages place) }
     requires some { 1 ≤ length leaf.now }
     requires within { length leaf.now ≤ capacity W }
-    ensures fits { OnOk result (Fits pages.now work.new) }
     ensures same { OnOk result (index.new.pages ≡ index.old.pages) }
-    ensures list { OnOk result (KeepsList index.old index.new) }
-    ensures pages { OnOk result (HasPages (stand pages.now work.old) index.old.pages
-        → HasPages (stand pages.now work.new) index.new.pages) }
-    ensures trades { OnOk result (HasPages (stand pages.now work.old) index.old.pages
-        → TradesPages index.old.pages index.new.pages
-        (stand pages.now work.old) (stand pages.now work.new)) }
+    ensures shape { OnOk result (Reshapes (HasPages (stand pages.now work.old) index.old.pages)
+        (stand pages.now work.old) (stand pages.now work.new) index.old index.new) }
     ensures leaves { OnOk result (HasPages (stand pages.now work.old) index.old.pages
         → (leaves : List (List Entry))
         → HasLeaves W (stand pages.now work.old) index.old leaves
         → HasLeaves W (stand pages.now work.new) index.new (slice_set leaves place leaf.now)) }
-    ensures balance { OnOk result (KeepsBalance (stand pages.now work.old)
-        (stand pages.now work.new) index.old.pages index.new.pages) }
-    ensures answer { AnswersChange result ⊥ }
+    ensures work { ChangesWork result ⊥ pages.now work.new }
 {
     // For the proof.
     let _count = leaf_count(index);
@@ -227,19 +206,13 @@ pub(crate) fn add_leaf<D: Disk, const W: usize>(
     place: usize,
     leaf: &[(IndexKey<W>, u32)],
 ) -> Result<(), Fault>
-    requires open { pages.now.closed ≡ false }
-    requires fits { Fits pages.now work.old }
+    requires work { IsInProgress pages.now work.old }
     requires place { place ≤ length index.old.pages }
     requires some { 1 ≤ length leaf.now }
     requires within { length leaf.now ≤ capacity W }
-    ensures fits { OnOk result (Fits pages.now work.new) }
-    ensures list { OnOk result (KeepsList index.old index.new) }
-    ensures pages { OnOk result (HasPages (stand pages.now work.old) index.old.pages
-        → HasPages (stand pages.now work.new) index.new.pages) }
+    ensures shape { OnOk result (Reshapes (HasPages (stand pages.now work.old) index.old.pages)
+        (stand pages.now work.old) (stand pages.now work.new) index.old index.new) }
     ensures count { OnOk result (length index.new.pages ≡ length index.old.pages + 1) }
-    ensures trades { OnOk result (HasPages (stand pages.now work.old) index.old.pages
-        → TradesPages index.old.pages index.new.pages
-        (stand pages.now work.old) (stand pages.now work.new)) }
     ensures leaves { OnOk result (HasPages (stand pages.now work.old) index.old.pages
         → (leaves : List (List Entry))
         → HasLeaves W (stand pages.now work.old) index.old leaves
@@ -248,9 +221,8 @@ pub(crate) fn add_leaf<D: Disk, const W: usize>(
         → slice_index index.new.pages other ≡ slice_index index.old.pages other) }
     ensures kept { OnOk result ((page : ℕ) → InUse (stand pages.now work.old) page
         → InUse (stand pages.now work.new) page) }
-    ensures balance { OnOk result (KeepsBalance (stand pages.now work.old)
-        (stand pages.now work.new) index.old.pages index.new.pages) }
-    ensures answer { AnswersChange result (free_pages (stand pages.now work.old).used ≡ 0) }
+    ensures work { ChangesWork result (free_pages (stand pages.now work.old).used
+        ≡ 0) pages.now work.new }
 {
     // For the proof.
     law_of_frames();
@@ -278,26 +250,18 @@ pub(crate) fn drop_leaf<D: Disk, const W: usize>(
     index: &mut Index<W>,
     place: usize,
 ) -> Result<(), Fault>
-    requires open { pages.now.closed ≡ false }
-    requires fits { Fits pages.now work.old }
+    requires work { IsInProgress pages.now work.old }
     requires place { place < length index.old.pages }
     requires in_use { InUse (stand pages.now work.old) (slice_index index.old.pages place) }
-    ensures fits { OnOk result (Fits pages.now work.new) }
-    ensures list { OnOk result (KeepsList index.old index.new) }
+    ensures shape { OnOk result (Reshapes (HasPages (stand pages.now work.old) index.old.pages)
+        (stand pages.now work.old) (stand pages.now work.new) index.old index.new) }
     ensures gone { OnOk result ((index.new.pages ≡ remove index.old.pages place)
         × (index.new.heads ≡ remove index.old.heads place)) }
-    ensures pages { OnOk result (HasPages (stand pages.now work.old) index.old.pages
-        → HasPages (stand pages.now work.new) index.new.pages) }
-    ensures trades { OnOk result (HasPages (stand pages.now work.old) index.old.pages
-        → TradesPages index.old.pages index.new.pages
-        (stand pages.now work.old) (stand pages.now work.new)) }
     ensures leaves { OnOk result (HasPages (stand pages.now work.old) index.old.pages
         → (leaves : List (List Entry))
         → HasLeaves W (stand pages.now work.old) index.old leaves
         → HasLeaves W (stand pages.now work.new) index.new (remove leaves place)) }
-    ensures balance { OnOk result (KeepsBalance (stand pages.now work.old)
-        (stand pages.now work.new) index.old.pages index.new.pages) }
-    ensures answer { AnswersChange result ⊥ }
+    ensures work { ChangesWork result ⊥ pages.now work.new }
 {
     // For the proof.
     law_of_frames();
@@ -336,19 +300,13 @@ pub(crate) fn spread<D: Disk, const W: usize>(
     place: usize,
     entries: &[(IndexKey<W>, u32)],
 ) -> Result<(), Fault>
-    requires open { pages.now.closed ≡ false }
-    requires fits { Fits pages.now work.old }
+    requires work { IsInProgress pages.now work.old }
     requires place { place < length index.old.pages }
     requires in_use { InUse (stand pages.now work.old) (slice_index index.old.pages place) }
     requires some { 1 ≤ length entries.now }
-    ensures fits { OnOk result (Fits pages.now work.new) }
-    ensures list { OnOk result (KeepsList index.old index.new) }
+    ensures shape { OnOk result (Reshapes (HasPages (stand pages.now work.old) index.old.pages)
+        (stand pages.now work.old) (stand pages.now work.new) index.old index.new) }
     ensures some { OnOk result (0 < length index.new.pages) }
-    ensures pages { OnOk result (HasPages (stand pages.now work.old) index.old.pages
-        → HasPages (stand pages.now work.new) index.new.pages) }
-    ensures trades { OnOk result (HasPages (stand pages.now work.old) index.old.pages
-        → TradesPages index.old.pages index.new.pages
-        (stand pages.now work.old) (stand pages.now work.new)) }
     ensures leaves { OnOk result (HasPages (stand pages.now work.old) index.old.pages
         → (leaves : List (List Entry))
         → HasLeaves W (stand pages.now work.old) index.old leaves → (more : List (List Entry))
@@ -356,10 +314,8 @@ pub(crate) fn spread<D: Disk, const W: usize>(
         × (joined_leaves more
         ≡ joined_leaves (take place leaves)
         ++ (entries.now ++ joined_leaves (drop (place + 1) leaves)))) }
-    ensures balance { OnOk result (KeepsBalance (stand pages.now work.old)
-        (stand pages.now work.new) index.old.pages index.new.pages) }
-    ensures answer { AnswersChange result
-        (free_pages (stand pages.now work.old).used + 1 < length entries.now) }
+    ensures work { ChangesWork result (free_pages (stand pages.now work.old).used + 1
+        < length entries.now) pages.now work.new }
 {
     // For the proof.
     let _count = leaf_count(index);

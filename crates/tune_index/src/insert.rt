@@ -1,19 +1,19 @@
 // Entries put into an index and taken out of it.
-ghost use Rattle.std.specs.Prelude.{◌≡◌, false, true, ℕ, List, [], ◌-◌, ◌≤◌, ◌<◌, ◌+◌, ◌++◌};
+ghost use Rattle.std.specs.Prelude.{◌≡◌, false, true, List, [], ◌-◌, ◌≤◌, ◌<◌, ◌+◌, ◌++◌};
 ghost use Rattle.std.specs.Prelude.{length, IfOk, OnOk, slice_index, slice_index_or, take, drop};
 ghost use Rattle.tune_pages.specs.Faults.{free_pages};
-ghost use Rattle.tune_pages.specs.Frame.{InUse, TradesPages};
+ghost use Rattle.tune_pages.specs.Frame.{InUse};
 ghost use Rattle.tune_pages.specs.Kept.{HonestAt};
-ghost use Rattle.tune_pages.specs.PageLooks.{LooksAt};
-ghost use Rattle.tune_pages.specs.Work.{stand, Fits};
+ghost use Rattle.tune_pages.specs.Work.{stand};
 ghost use Rattle.index_keys.specs.Entries.{AllFit, Entry, FitsLeaf, IsRising, entry_inserted};
 ghost use Rattle.index_keys.specs.Entries.{inserted_all, rank, removed};
-ghost use Rattle.tune_index.specs.IndexAnswers.{AnswersChange, AnswersEdit};
-ghost use Rattle.tune_index.specs.Indexes.{AllLeaves, HasPages, IsIndex, KeepsBalance, KeepsList};
+ghost use Rattle.tune_index.specs.IndexAnswers.{ChangesWork, Edits};
+ghost use Rattle.tune_index.specs.Indexes.{AllLeaves, HasPages, IsIndex, Reshapes};
 ghost use Rattle.tune_index.specs.Indexes.{entries_of};
 ghost use Rattle.tune_index.specs.Inside.LeafLists.{HasLeaves, joined_leaves};
-ghost use Rattle.tune_index.specs.Inside.EntryPlaces.{AllBelow, BelongsTo};
-ghost use Rattle.tune_index.specs.Leaves.{IsLeaf, capacity, leaf_in, slice_entry};
+ghost use Rattle.tune_index.specs.Inside.EntryPlaces.{AllBelow};
+ghost use Rattle.tune_index.specs.Leaves.{IsLeaf, leaf_in, slice_entry};
+ghost use Rattle.tune_pages.specs.Progress.{IsInProgress};
 
 use crate::candidates::read_page_leaf;
 use crate::edit::{add_leaf, drop_leaf, set_image, spread};
@@ -59,20 +59,14 @@ fn spread_in_leaf<D: Disk, const W: usize>(
     part: &[(IndexKey<W>, u32)],
     image: &PageImage,
 ) -> Result<(), Fault>
-    requires open { pages.now.closed ≡ false }
-    requires fits { Fits pages.now work.old }
+    requires work { IsInProgress pages.now work.old }
     requires place { place < length index.old.pages }
     requires in_use { InUse (stand pages.now work.old) (slice_index index.old.pages place) }
     requires some { 1 ≤ length part.now }
     requires form { IsLeaf W image.now.bytes }
-    ensures fits { OnOk result (Fits pages.now work.new) }
-    ensures list { OnOk result (KeepsList index.old index.new) }
+    ensures shape { OnOk result (Reshapes (HasPages (stand pages.now work.old) index.old.pages)
+        (stand pages.now work.old) (stand pages.now work.new) index.old index.new) }
     ensures some { OnOk result (0 < length index.new.pages) }
-    ensures pages { OnOk result (HasPages (stand pages.now work.old) index.old.pages
-        → HasPages (stand pages.now work.new) index.new.pages) }
-    ensures trades { OnOk result (HasPages (stand pages.now work.old) index.old.pages
-        → TradesPages index.old.pages index.new.pages
-        (stand pages.now work.old) (stand pages.now work.new)) }
     ensures fit { OnOk result (AllFit W part.now) }
     ensures leaves { let leaf = leaf_in W image.now.bytes in
         OnOk result (HasPages (stand pages.now work.old) index.old.pages
@@ -81,11 +75,9 @@ fn spread_in_leaf<D: Disk, const W: usize>(
         × HasLeaves W (stand pages.now work.new) index.new more
         × (joined_leaves more ≡ joined_leaves (take place leaves)
         ++ (inserted_all part.now leaf ++ joined_leaves (drop (place + 1) leaves)))) }
-    ensures balance { OnOk result (KeepsBalance (stand pages.now work.old)
-        (stand pages.now work.new) index.old.pages index.new.pages) }
-    ensures answer { let leaf = leaf_in W image.now.bytes in
-        AnswersChange result (IsRising leaf
-        → free_pages (stand pages.now work.old).used + 1 < length (inserted_all part.now leaf)) }
+    ensures work { let leaf = leaf_in W image.now.bytes in ChangesWork result (IsRising leaf
+        → free_pages (stand pages.now work.old).used + 1
+        < length (inserted_all part.now leaf)) pages.now work.new }
 {
     // For the proof.
     let _count = leaf_count(index);
@@ -133,20 +125,14 @@ fn insert_in_leaf<D: Disk, const W: usize>(
     part: &[(IndexKey<W>, u32)],
     image: &mut PageImage,
 ) -> Result<(), Fault>
-    requires open { pages.now.closed ≡ false }
-    requires fits { Fits pages.now work.old }
+    requires work { IsInProgress pages.now work.old }
     requires place { place < length index.old.pages }
     requires in_use { InUse (stand pages.now work.old) (slice_index index.old.pages place) }
     requires some { 1 ≤ length part.now }
     requires form { IsLeaf W image.old.bytes }
-    ensures fits { OnOk result (Fits pages.now work.new) }
-    ensures list { OnOk result (KeepsList index.old index.new) }
+    ensures shape { OnOk result (Reshapes (HasPages (stand pages.now work.old) index.old.pages)
+        (stand pages.now work.old) (stand pages.now work.new) index.old index.new) }
     ensures some { OnOk result (0 < length index.new.pages) }
-    ensures pages { OnOk result (HasPages (stand pages.now work.old) index.old.pages
-        → HasPages (stand pages.now work.new) index.new.pages) }
-    ensures trades { OnOk result (HasPages (stand pages.now work.old) index.old.pages
-        → TradesPages index.old.pages index.new.pages
-        (stand pages.now work.old) (stand pages.now work.new)) }
     ensures fit { OnOk result (AllFit W part.now) }
     ensures leaves { let leaf = leaf_in W image.old.bytes in
         OnOk result (HasPages (stand pages.now work.old) index.old.pages
@@ -155,11 +141,9 @@ fn insert_in_leaf<D: Disk, const W: usize>(
         × HasLeaves W (stand pages.now work.new) index.new more
         × (joined_leaves more ≡ joined_leaves (take place leaves)
         ++ (inserted_all part.now leaf ++ joined_leaves (drop (place + 1) leaves)))) }
-    ensures balance { OnOk result (KeepsBalance (stand pages.now work.old)
-        (stand pages.now work.new) index.old.pages index.new.pages) }
-    ensures answer { let leaf = leaf_in W image.old.bytes in
-        AnswersChange result (IsRising leaf
-        → free_pages (stand pages.now work.old).used + 1 < length (inserted_all part.now leaf)) }
+    ensures work { let leaf = leaf_in W image.old.bytes in ChangesWork result (IsRising leaf
+        → free_pages (stand pages.now work.old).used + 1
+        < length (inserted_all part.now leaf)) pages.now work.new }
 {
     // For the proof.
     let _count = leaf_count(index);
@@ -184,22 +168,16 @@ fn insert_part<D: Disk, const W: usize>(
     place: usize,
     part: &[(IndexKey<W>, u32)],
 ) -> Result<(), Fault>
-    requires open { pages.old.closed ≡ false }
-    requires fits { Fits pages.old work.old }
+    requires work { IsInProgress pages.old work.old }
     requires pages { HonestAt D.honest pages.old.disk
         → HasPages (stand pages.old work.old) index.old.pages }
     requires form { HonestAt D.honest pages.old.disk
         → AllLeaves W (stand pages.old work.old) index.old.pages }
     requires place { place < length index.old.pages }
     requires some { 1 ≤ length part.now }
-    ensures fits { OnOk result (Fits pages.new work.new) }
-    ensures list { OnOk result (KeepsList index.old index.new) }
+    ensures shape { OnOk result (Reshapes (HonestAt D.honest pages.new.disk)
+        (stand pages.old work.old) (stand pages.new work.new) index.old index.new) }
     ensures some { OnOk result (0 < length index.new.pages) }
-    ensures pages { OnOk result (HonestAt D.honest pages.new.disk
-        → HasPages (stand pages.new work.new) index.new.pages) }
-    ensures trades { OnOk result (HonestAt D.honest pages.new.disk
-        → TradesPages index.old.pages index.new.pages
-        (stand pages.old work.old) (stand pages.new work.new)) }
     ensures fit { OnOk result (AllFit W part.now) }
     ensures leaves { OnOk result (HonestAt D.honest pages.new.disk → (leaves : List (List Entry))
         → HasLeaves W (stand pages.old work.old) index.old leaves
@@ -208,14 +186,11 @@ fn insert_part<D: Disk, const W: usize>(
         × (joined_leaves more ≡ joined_leaves (take place leaves)
         ++ (inserted_all part.now (slice_index_or leaves place [])
         ++ joined_leaves (drop (place + 1) leaves)))) }
-    ensures balance { OnOk result (KeepsBalance (stand pages.old work.old)
-        (stand pages.new work.new) index.old.pages index.new.pages) }
-    ensures looks { LooksAt D.honest D.failures D.state result pages.old pages.new }
-    ensures answer { AnswersEdit result pages.new.closed (HonestAt D.honest pages.new.disk
+    ensures edits { Edits D.Disk result (HonestAt D.honest pages.new.disk
         → (leaves : List (List Entry)) → HasLeaves W (stand pages.old work.old) index.old leaves
-        → IsRising (slice_index_or leaves place [])
-        → free_pages (stand pages.old work.old).used + 1
-        < length (inserted_all part.now (slice_index_or leaves place []))) }
+        → IsRising (slice_index_or leaves place []) → free_pages (stand pages.old work.old).used + 1
+        < length (inserted_all part.now (slice_index_or leaves place []))) work.new pages.old
+        pages.new }
 {
     // For the proof.
     let _count = leaf_count(index);
@@ -278,8 +253,7 @@ fn insert_from<D: Disk, const W: usize>(
     run: &[(IndexKey<W>, u32)],
     at: usize,
 ) -> Result<usize, Fault>
-    requires open { pages.old.closed ≡ false }
-    requires fits { Fits pages.old work.old }
+    requires work { IsInProgress pages.old work.old }
     requires pages { HonestAt D.honest pages.old.disk
         → HasPages (stand pages.old work.old) index.old.pages }
     requires index { HonestAt D.honest pages.old.disk
@@ -287,13 +261,8 @@ fn insert_from<D: Disk, const W: usize>(
     requires some { 0 < length index.old.pages }
     requires rising { IsRising (drop at run.now) }
     requires at { at < length run.now }
-    ensures fits { OnOk result (Fits pages.new work.new) }
-    ensures list { OnOk result (KeepsList index.old index.new) }
-    ensures pages { OnOk result (HonestAt D.honest pages.new.disk
-        → HasPages (stand pages.new work.new) index.new.pages) }
-    ensures trades { OnOk result (HonestAt D.honest pages.new.disk
-        → TradesPages index.old.pages index.new.pages
-        (stand pages.old work.old) (stand pages.new work.new)) }
+    ensures shape { OnOk result (Reshapes (HonestAt D.honest pages.new.disk)
+        (stand pages.old work.old) (stand pages.new work.new) index.old index.new) }
     ensures some { OnOk result (0 < length index.new.pages) }
     ensures later { IfOk result (λ end. at < end) }
     ensures within { IfOk result (λ end. end ≤ length run.now) }
@@ -302,13 +271,10 @@ fn insert_from<D: Disk, const W: usize>(
         × (entries_of W (stand pages.new work.new) index.new.pages
         ≡ inserted_all (take (end - at) (drop at run.now))
         (entries_of W (stand pages.old work.old) index.old.pages))) }
-    ensures balance { OnOk result (KeepsBalance (stand pages.old work.old)
-        (stand pages.new work.new) index.old.pages index.new.pages) }
-    ensures looks { LooksAt D.honest D.failures D.state result pages.old pages.new }
-    ensures answer { AnswersEdit result pages.new.closed (HonestAt D.honest pages.new.disk
+    ensures edits { Edits D.Disk result (HonestAt D.honest pages.new.disk
         → free_pages (stand pages.old work.old).used + length index.old.pages
-        < length (inserted_all (drop at run.now)
-        (entries_of W (stand pages.old work.old) index.old.pages))) }
+        < length (inserted_all (drop at run.now) (entries_of W (stand pages.old work.old)
+        index.old.pages))) work.new pages.old pages.new }
 {
     let entry = &run[at];
     let place = leaf_for(index, &entry.0, entry.1);
@@ -346,19 +312,11 @@ fn insert_first<D: Disk, const W: usize>(
     index: &mut Index<W>,
     run: &[(IndexKey<W>, u32)],
 ) -> Result<usize, Fault>
-    requires open { pages.now.closed ≡ false }
-    requires fits { Fits pages.now work.old }
+    requires work { IsInProgress pages.now work.old }
     requires some { 1 ≤ length run.now }
     requires rising { IsRising run.now }
-    ensures fits { OnOk result (Fits pages.now work.new) }
-    ensures list { OnOk result (KeepsList index.old index.new) }
-    ensures pages { OnOk result (HasPages (stand pages.now work.old) index.old.pages
-        → HasPages (stand pages.now work.new) index.new.pages) }
-    ensures trades { OnOk result (HasPages (stand pages.now work.old) index.old.pages
-        → TradesPages index.old.pages index.new.pages
-        (stand pages.now work.old) (stand pages.now work.new)) }
-    ensures balance { OnOk result (KeepsBalance (stand pages.now work.old)
-        (stand pages.now work.new) index.old.pages index.new.pages) }
+    ensures shape { OnOk result (Reshapes (HasPages (stand pages.now work.old) index.old.pages)
+        (stand pages.now work.old) (stand pages.now work.new) index.old index.new) }
     ensures some { OnOk result (0 < length index.new.pages) }
     ensures within { IfOk result (λ at. at ≤ length run.now) }
     ensures entries { IfOk result (λ at. IsIndex W (stand pages.now work.old) index.old
@@ -366,8 +324,8 @@ fn insert_first<D: Disk, const W: usize>(
         × (entries_of W (stand pages.now work.new) index.new.pages
         ≡ inserted_all (take at run.now)
         (entries_of W (stand pages.now work.old) index.old.pages))) }
-    ensures answer { AnswersChange result ((length index.old.pages ≡ 0)
-        × (free_pages (stand pages.now work.old).used < length run.now)) }
+    ensures work { ChangesWork result ((length index.old.pages ≡ 0)
+        × (free_pages (stand pages.now work.old).used < length run.now)) pages.now work.new }
 {
     let leaves = leaf_count(index);
     if leaves > 0 {
@@ -402,31 +360,22 @@ impl<const W: usize> Index<W> {
         work: &mut Work,
         run: &[(IndexKey<W>, u32)],
     ) -> Result<(), Fault>
-        requires open { pages.old.closed ≡ false }
-        requires fits { Fits pages.old work.old }
+        requires work { IsInProgress pages.old work.old }
         requires pages { HonestAt D.honest pages.old.disk
             → HasPages (stand pages.old work.old) self.old.pages }
         requires index { HonestAt D.honest pages.old.disk
             → IsIndex W (stand pages.old work.old) self.old }
         requires rising { IsRising run.now }
-        ensures fits { OnOk result (Fits pages.new work.new) }
-        ensures list { OnOk result (KeepsList self.old self.new) }
-        ensures pages { OnOk result (HonestAt D.honest pages.new.disk
-            → HasPages (stand pages.new work.new) self.new.pages) }
-        ensures trades { OnOk result (HonestAt D.honest pages.new.disk
-            → TradesPages self.old.pages self.new.pages
-            (stand pages.old work.old) (stand pages.new work.new)) }
+        ensures shape { OnOk result (Reshapes (HonestAt D.honest pages.new.disk)
+            (stand pages.old work.old) (stand pages.new work.new) self.old self.new) }
         ensures entries { OnOk result (HonestAt D.honest pages.new.disk
             → IsIndex W (stand pages.new work.new) self.new
             × (entries_of W (stand pages.new work.new) self.new.pages ≡ inserted_all run.now
             (entries_of W (stand pages.old work.old) self.old.pages))) }
-        ensures balance { OnOk result (KeepsBalance (stand pages.old work.old)
-            (stand pages.new work.new) self.old.pages self.new.pages) }
-        ensures looks { LooksAt D.honest D.failures D.state result pages.old pages.new }
-        ensures answer { AnswersEdit result pages.new.closed (HonestAt D.honest pages.new.disk
+        ensures edits { Edits D.Disk result (HonestAt D.honest pages.new.disk
             → free_pages (stand pages.old work.old).used + length self.old.pages
-            < length (inserted_all run.now
-            (entries_of W (stand pages.old work.old) self.old.pages))) }
+            < length (inserted_all run.now (entries_of W (stand pages.old work.old)
+            self.old.pages))) work.new pages.old pages.new }
     {
         if run.is_empty() {
             return Ok(());
@@ -457,31 +406,22 @@ impl<const W: usize> Index<W> {
         key: IndexKey<W>,
         value: u32,
     ) -> Result<(), Fault>
-        requires open { pages.old.closed ≡ false }
-        requires fits { Fits pages.old work.old }
+        requires work { IsInProgress pages.old work.old }
         requires pages { HonestAt D.honest pages.old.disk
             → HasPages (stand pages.old work.old) self.old.pages }
         requires index { HonestAt D.honest pages.old.disk
             → IsIndex W (stand pages.old work.old) self.old }
-        ensures fits { OnOk result (Fits pages.new work.new) }
-        ensures list { OnOk result (KeepsList self.old self.new) }
-        ensures pages { OnOk result (HonestAt D.honest pages.new.disk
-            → HasPages (stand pages.new work.new) self.new.pages) }
-        ensures trades { OnOk result (HonestAt D.honest pages.new.disk
-            → TradesPages self.old.pages self.new.pages
-            (stand pages.old work.old) (stand pages.new work.new)) }
+        ensures shape { OnOk result (Reshapes (HonestAt D.honest pages.new.disk)
+            (stand pages.old work.old) (stand pages.new work.new) self.old self.new) }
         ensures entries { OnOk result (HonestAt D.honest pages.new.disk
             → IsIndex W (stand pages.new work.new) self.new
             × (entries_of W (stand pages.new work.new) self.new.pages
             ≡ entry_inserted (key.entry, value)
             (entries_of W (stand pages.old work.old) self.old.pages))) }
-        ensures balance { OnOk result (KeepsBalance (stand pages.old work.old)
-            (stand pages.new work.new) self.old.pages self.new.pages) }
-        ensures looks { LooksAt D.honest D.failures D.state result pages.old pages.new }
-        ensures answer { AnswersEdit result pages.new.closed (HonestAt D.honest pages.new.disk
+        ensures edits { Edits D.Disk result (HonestAt D.honest pages.new.disk
             → free_pages (stand pages.old work.old).used + length self.old.pages
-            < length (entry_inserted (key.entry, value)
-            (entries_of W (stand pages.old work.old) self.old.pages))) }
+            < length (entry_inserted (key.entry, value) (entries_of W (stand pages.old work.old)
+            self.old.pages))) work.new pages.old pages.new }
     {
         let mut run = Vec::new(alloc);
         match run.push((key, value)) {
@@ -509,28 +449,19 @@ impl<const W: usize> Index<W> {
         key: &IndexKey<W>,
         value: u32,
     ) -> Result<(), Fault>
-        requires open { pages.old.closed ≡ false }
-        requires fits { Fits pages.old work.old }
+        requires work { IsInProgress pages.old work.old }
         requires pages { HonestAt D.honest pages.old.disk
             → HasPages (stand pages.old work.old) self.old.pages }
         requires index { HonestAt D.honest pages.old.disk
             → IsIndex W (stand pages.old work.old) self.old }
-        ensures fits { OnOk result (Fits pages.new work.new) }
-        ensures list { OnOk result (KeepsList self.old self.new) }
-        ensures pages { OnOk result (HonestAt D.honest pages.new.disk
-            → HasPages (stand pages.new work.new) self.new.pages) }
-        ensures trades { OnOk result (HonestAt D.honest pages.new.disk
-            → TradesPages self.old.pages self.new.pages
-            (stand pages.old work.old) (stand pages.new work.new)) }
+        ensures shape { OnOk result (Reshapes (HonestAt D.honest pages.new.disk)
+            (stand pages.old work.old) (stand pages.new work.new) self.old self.new) }
         ensures entries { OnOk result (HonestAt D.honest pages.new.disk
             → IsIndex W (stand pages.new work.new) self.new
             × (entries_of W (stand pages.new work.new) self.new.pages
             ≡ removed (key.now, value)
             (entries_of W (stand pages.old work.old) self.old.pages))) }
-        ensures balance { OnOk result (KeepsBalance (stand pages.old work.old)
-            (stand pages.new work.new) self.old.pages self.new.pages) }
-        ensures looks { LooksAt D.honest D.failures D.state result pages.old pages.new }
-        ensures answer { AnswersEdit result pages.new.closed ⊥ }
+        ensures edits { Edits D.Disk result ⊥ work.new pages.old pages.new }
     {
         let leaves = leaf_count(self);
         if leaves == 0 {
@@ -553,20 +484,14 @@ fn remove_at<D: Disk, const W: usize>(
     key: &IndexKey<W>,
     value: u32,
 ) -> Result<(), Fault>
-    requires open { pages.old.closed ≡ false }
-    requires fits { Fits pages.old work.old }
+    requires work { IsInProgress pages.old work.old }
     requires pages { HonestAt D.honest pages.old.disk
         → HasPages (stand pages.old work.old) index.old.pages }
     requires form { HonestAt D.honest pages.old.disk
         → AllLeaves W (stand pages.old work.old) index.old.pages }
     requires place { place < length index.old.pages }
-    ensures fits { OnOk result (Fits pages.new work.new) }
-    ensures list { OnOk result (KeepsList index.old index.new) }
-    ensures pages { OnOk result (HonestAt D.honest pages.new.disk
-        → HasPages (stand pages.new work.new) index.new.pages) }
-    ensures trades { OnOk result (HonestAt D.honest pages.new.disk
-        → TradesPages index.old.pages index.new.pages
-        (stand pages.old work.old) (stand pages.new work.new)) }
+    ensures shape { OnOk result (Reshapes (HonestAt D.honest pages.new.disk)
+        (stand pages.old work.old) (stand pages.new work.new) index.old index.new) }
     ensures leaves { OnOk result (HonestAt D.honest pages.new.disk → (leaves : List (List Entry))
         → HasLeaves W (stand pages.old work.old) index.old leaves
         → IsRising (slice_index_or leaves place []) → (more : List (List Entry))
@@ -574,10 +499,7 @@ fn remove_at<D: Disk, const W: usize>(
         × (joined_leaves more ≡ joined_leaves (take place leaves)
         ++ (removed (key.now, value) (slice_index_or leaves place [])
         ++ joined_leaves (drop (place + 1) leaves)))) }
-    ensures balance { OnOk result (KeepsBalance (stand pages.old work.old)
-        (stand pages.new work.new) index.old.pages index.new.pages) }
-    ensures looks { LooksAt D.honest D.failures D.state result pages.old pages.new }
-    ensures answer { AnswersEdit result pages.new.closed ⊥ }
+    ensures edits { Edits D.Disk result ⊥ work.new pages.old pages.new }
 {
     // For the proof.
     let _count = leaf_count(index);

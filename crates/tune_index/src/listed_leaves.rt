@@ -1,12 +1,12 @@
 // The list of an index's leaves, on a chain.
-ghost use Rattle.std.specs.Prelude.{◌≡◌, ◌*◌, length, false, true, IfOk, OnOk};
+ghost use Rattle.std.specs.Prelude.{◌≡◌, ◌*◌, length, true, IfOk, OnOk};
 ghost use Rattle.tune_pages.specs.Faults.{pages_for};
 ghost use Rattle.tune_pages.specs.FreePages.{TakesAtMost};
 ghost use Rattle.tune_pages.specs.Kept.{HonestAt};
-ghost use Rattle.tune_pages.specs.PageLooks.{LooksAt};
-ghost use Rattle.tune_pages.specs.Work.{stand, Fits};
-ghost use Rattle.tune_index.specs.IndexAnswers.{AnswersEdit};
+ghost use Rattle.tune_pages.specs.Work.{stand};
+ghost use Rattle.tune_index.specs.IndexAnswers.{Edits};
 ghost use Rattle.tune_index.specs.ListedLeaves.{HasList, StoresList, listed_bytes};
+ghost use Rattle.tune_pages.specs.Progress.{IsInProgress};
 
 use crate::index::Index;
 use crate::leaf::push_value;
@@ -70,11 +70,9 @@ impl<const W: usize> Index<W> {
         pages: &mut Pages<D>,
         work: &mut Work,
     ) -> Result<u32, Fault>
-        requires open { pages.old.closed ≡ false }
-        requires fits { Fits pages.old work.old }
+        requires work { IsInProgress pages.old work.old }
         requires list { HonestAt D.honest pages.old.disk
             → HasList (stand pages.old work.old) self.old }
-        ensures fits { OnOk result (Fits pages.new work.new) }
         ensures leaves { OnOk result ((self.new.pages ≡ self.old.pages)
             × (self.new.heads ≡ self.old.heads)) }
         ensures list { IfOk result (λ first.
@@ -82,11 +80,10 @@ impl<const W: usize> Index<W> {
         ensures stores { IfOk result (λ first. HonestAt D.honest pages.new.disk → StoresList
             (stand pages.old work.old) (stand pages.new work.new) self.old.first first
             self.old.pages) }
-        ensures looks { LooksAt D.honest D.failures D.state result pages.old pages.new }
         ensures takes { HonestAt D.honest pages.new.disk
             → TakesAtMost (pages_for (4 * length self.old.pages)) result
             (stand pages.old work.old) (stand pages.new work.new) }
-        ensures answer { AnswersEdit result pages.new.closed (Unit {0}) }
+        ensures edits { Edits D.Disk result (Unit {0}) work.new pages.old pages.new }
     {
         // For the proof.
         law_of_chains();

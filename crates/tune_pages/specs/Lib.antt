@@ -9,5 +9,6 @@ pub mod Kept
 pub mod LinkOffsets
 pub mod OpenedPages
 pub mod PageLooks
+pub mod Progress
 pub mod Stand
 pub mod Work

@@ -2,12 +2,12 @@
 ghost use Rattle.std.specs.Prelude.{◌≡◌, ◌↔◌, ◌<◌, false, true, length};
 ghost use Rattle.std.specs.Prelude.{IsTrue, MatchResult, IfOk, OnOk};
 ghost use Rattle.tune_journal.specs.Pages.{page_at};
-ghost use Rattle.tune_pages.specs.Faults.{AnswersRead};
 ghost use Rattle.tune_pages.specs.Kept.{HonestAt};
-ghost use Rattle.tune_pages.specs.PageLooks.{LooksAt, SameStand};
+ghost use Rattle.tune_pages.specs.PageLooks.{LooksAt};
 ghost use Rattle.tune_pages.specs.Stand.{IsUsed};
 ghost use Rattle.tune_pages.specs.Work.{stand, Fits};
 ghost use Rattle.tune_pages.specs.declared.fault.Fault.TheVariants.{Device};
+ghost use Rattle.tune_pages.specs.Progress.{Reads};
 
 use crate::fault::Fault;
 use crate::pages::{Held, Pages};
@@ -35,11 +35,7 @@ impl<D: Disk> Pages<D> {
         requires used { IsUsed (stand self.old work.now).used page }
         ensures image { IfOk result (λ image. HonestAt D.honest self.new.disk
             → image.bytes ≡ page_at (stand self.old work.now).pages page) }
-        ensures fits { OnOk result (Fits self.new work.now) }
-        ensures stand { OnOk result (SameStand (HonestAt D.honest self.new.disk)
-            (stand self.old work.now) (stand self.new work.now)) }
-        ensures looks { LooksAt D.honest D.failures D.state result self.old self.new }
-        ensures answer { AnswersRead result self.old.closed self.new.closed }
+        ensures reads { Reads D.Disk result work.now self.old self.new }
     {
         let mut image = PageImage::blank();
         match self.read_page_into(work, page, &mut image) {
@@ -63,11 +59,7 @@ impl<D: Disk> Pages<D> {
         requires used { IsUsed (stand self.old work.now).used page }
         ensures image { OnOk result (HonestAt D.honest self.new.disk
             → image.new.bytes ≡ page_at (stand self.old work.now).pages page) }
-        ensures fits { OnOk result (Fits self.new work.now) }
-        ensures stand { OnOk result (SameStand (HonestAt D.honest self.new.disk)
-            (stand self.old work.now) (stand self.new work.now)) }
-        ensures looks { LooksAt D.honest D.failures D.state result self.old self.new }
-        ensures answer { AnswersRead result self.old.closed self.new.closed }
+        ensures reads { Reads D.Disk result work.now self.old self.new }
     {
         self.read_image(work, page, image, true)
     }
@@ -85,11 +77,7 @@ impl<D: Disk> Pages<D> {
         requires used { IsUsed (stand self.old work.now).used page }
         ensures image { OnOk result (HonestAt D.honest self.new.disk
             → image.new.bytes ≡ page_at (stand self.old work.now).pages page) }
-        ensures fits { OnOk result (Fits self.new work.now) }
-        ensures stand { OnOk result (SameStand (HonestAt D.honest self.new.disk)
-            (stand self.old work.now) (stand self.new work.now)) }
-        ensures looks { LooksAt D.honest D.failures D.state result self.old self.new }
-        ensures answer { AnswersRead result self.old.closed self.new.closed }
+        ensures reads { Reads D.Disk result work.now self.old self.new }
     {
         if self.closed {
             return Err(Fault::Closed);

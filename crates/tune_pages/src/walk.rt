@@ -6,11 +6,12 @@ ghost use Rattle.tune_pages.specs.Chain.{next_page_of, piece_of, IsLink};
 ghost use Rattle.tune_pages.specs.Faults.{AnswersRead};
 ghost use Rattle.tune_pages.specs.Inside.Walking.{HasLink};
 ghost use Rattle.tune_pages.specs.Kept.{HonestAt};
-ghost use Rattle.tune_pages.specs.PageLooks.{LooksAt, SameStand};
+ghost use Rattle.tune_pages.specs.PageLooks.{LooksAt};
 ghost use Rattle.tune_pages.specs.Stand.{IsUsed, HasChain, HasSomeChain};
 ghost use Rattle.tune_pages.specs.Stand.{without_page, without_pages};
 ghost use Rattle.tune_pages.specs.Work.{stand, Fits, IsIdle};
 ghost use Rattle.tune_pages.specs.declared.fault.Fault.TheVariants.{OutOfMemory};
+ghost use Rattle.tune_pages.specs.Progress.{Reads};
 
 use crate::fault::Fault;
 use crate::link::{add_piece, is_link, next_page, try_link};
@@ -36,11 +37,7 @@ impl<D: Disk> Pages<D> {
             → HasChain (stand self.old work.now) first trail all → bytes.items ≡ all) }
         ensures none { IfOk result (λ bytes. first ≡ 0 → bytes.items ≡ []) }
         ensures still { first ≡ 0 → self.new ≡ self.old }
-        ensures fits { OnOk result (Fits self.new work.now) }
-        ensures stand { OnOk result (SameStand (HonestAt D.honest self.new.disk)
-            (stand self.old work.now) (stand self.new work.now)) }
-        ensures looks { LooksAt D.honest D.failures D.state result self.old self.new }
-        ensures answer { AnswersRead result self.old.closed self.new.closed }
+        ensures reads { Reads D.Disk result work.now self.old self.new }
     {
         self.walk_chain(work, first, true)
     }
@@ -59,11 +56,7 @@ impl<D: Disk> Pages<D> {
             → HasChain (stand self.old work.now) first trail all → bytes.items ≡ all) }
         ensures none { IfOk result (λ bytes. first ≡ 0 → bytes.items ≡ []) }
         ensures still { first ≡ 0 → self.new ≡ self.old }
-        ensures fits { OnOk result (Fits self.new work.now) }
-        ensures stand { OnOk result (SameStand (HonestAt D.honest self.new.disk)
-            (stand self.old work.now) (stand self.new work.now)) }
-        ensures looks { LooksAt D.honest D.failures D.state result self.old self.new }
-        ensures answer { AnswersRead result self.old.closed self.new.closed }
+        ensures reads { Reads D.Disk result work.now self.old self.new }
     {
         if self.closed {
             return Err(Fault::Closed);
@@ -146,11 +139,7 @@ impl<D: Disk> Pages<D> {
             ≡ bytes.old.items ++ piece_of (page_at (stand self.old work.now).pages page))) }
         ensures none { IfOk result (λ found. IfNone found (HonestAt D.honest self.new.disk
             → HasLink (stand self.old work.now) page → ⊥)) }
-        ensures fits { OnOk result (Fits self.new work.now) }
-        ensures stand { OnOk result (SameStand (HonestAt D.honest self.new.disk)
-            (stand self.old work.now) (stand self.new work.now)) }
-        ensures looks { LooksAt D.honest D.failures D.state result self.old self.new }
-        ensures answer { AnswersRead result self.old.closed self.new.closed }
+        ensures reads { Reads D.Disk result work.now self.old self.new }
     {
         if self.closed {
             return Err(Fault::Closed);
@@ -283,11 +272,7 @@ impl<D: Disk> Pages<D> {
             → image.new.bytes ≡ page_at (stand self.old work.now).pages page) }
         ensures none { IfOk result (λ found. found ≡ false → HonestAt D.honest self.new.disk
             → HasLink (stand self.old work.now) page → ⊥) }
-        ensures fits { OnOk result (Fits self.new work.now) }
-        ensures stand { OnOk result (SameStand (HonestAt D.honest self.new.disk)
-            (stand self.old work.now) (stand self.new work.now)) }
-        ensures looks { LooksAt D.honest D.failures D.state result self.old self.new }
-        ensures answer { AnswersRead result self.old.closed self.new.closed }
+        ensures reads { Reads D.Disk result work.now self.old self.new }
     {
         if self.closed {
             return Err(Fault::Closed);

@@ -1,13 +1,13 @@
 // Texts put into the search indexes and taken out of them.
-ghost use Rattle.std.specs.Prelude.{◌≡◌, ◌^◌, ◌+◌, ◌*◌, ◌<◌, ◌++◌, ◌∷◌, [], ℕ, false, length, List};
+ghost use Rattle.std.specs.Prelude.{◌≡◌, ◌^◌, ◌+◌, ◌*◌, ◌<◌, ◌++◌, ◌∷◌, [], ℕ, length, List};
 ghost use Rattle.std.specs.Prelude.{OnOk};
 ghost use Rattle.tune_pages.specs.Faults.{free_pages};
 ghost use Rattle.tune_pages.specs.Kept.{HonestAt};
-ghost use Rattle.tune_pages.specs.PageLooks.{LooksAt};
-ghost use Rattle.tune_pages.specs.Work.{stand, Fits};
+ghost use Rattle.tune_pages.specs.Work.{stand};
+ghost use Rattle.tune_pages.specs.Progress.{IsInProgress};
 ghost use Rattle.index_keys.specs.Entries.{IsRising};
 ghost use Rattle.index_keys.specs.Holdings.{AreSmall, IsWithout};
-ghost use Rattle.tune_index.specs.IndexAnswers.{AnswersEdit};
+ghost use Rattle.tune_index.specs.IndexAnswers.{Edits};
 ghost use Rattle.tune_parts.specs.Parts.{Part};
 ghost use Rattle.tune_search.specs.Inside.Four.{HoldsFour, HoldsSomeFour, LaysFour, entry_count};
 ghost use Rattle.tune_search.specs.Inside.Four.{runs_put_in, taken_out};
@@ -30,8 +30,7 @@ fn put_runs<D: Disk>(
     indexes: &mut SearchIndexes,
     runs: &Runs,
 ) -> Result<(), Fault>
-    requires open { pages.old.closed ≡ false }
-    requires fits { Fits pages.old work.old }
+    requires work { IsInProgress pages.old work.old }
     requires notes { runs.now.notes ≡ indexes.old.notes }
     requires holds { HonestAt D.honest pages.old.disk
         → HoldsSomeFour (stand pages.old work.old) indexes.old }
@@ -39,7 +38,6 @@ fn put_runs<D: Disk>(
     requires rhythms { IsRising runs.now.rhythms }
     requires scales { IsRising runs.now.scales }
     requires incipits { IsRising runs.now.incipits }
-    ensures fits { OnOk result (Fits pages.new work.new) }
     ensures notes { OnOk result (indexes.new.notes ≡ indexes.old.notes) }
     ensures lays { OnOk result (HonestAt D.honest pages.new.disk → LaysFour
         (stand pages.old work.old) (stand pages.new work.new) indexes.old indexes.new
@@ -47,12 +45,11 @@ fn put_runs<D: Disk>(
     ensures balance { OnOk result (free_pages (stand pages.old work.old).used
         + leaf_count indexes.old ≡ free_pages (stand pages.new work.new).used
         + leaf_count indexes.new) }
-    ensures looks { LooksAt D.honest D.failures D.state result pages.old pages.new }
-    ensures answer { AnswersEdit result pages.new.closed (HonestAt D.honest pages.new.disk
+    ensures edits { Edits D.Disk result (HonestAt D.honest pages.new.disk
         → (before after : List Part) (parts : SearchParts) (entries : SearchRuns)
         → HoldsFour (stand pages.old work.old) indexes.old before after parts entries
         → free_pages (stand pages.old work.old).used + leaf_count indexes.old
-        < entry_count (runs_put_in runs.now entries)) }
+        < entry_count (runs_put_in runs.now entries)) work.new pages.old pages.new }
 {
     match put_run(alloc, pages, work, &mut indexes.titles, &runs.titles) {
         Ok(()) => {}
@@ -81,12 +78,10 @@ fn take_runs<D: Disk>(
     indexes: &mut SearchIndexes,
     runs: &Runs,
 ) -> Result<(), Fault>
-    requires open { pages.old.closed ≡ false }
-    requires fits { Fits pages.old work.old }
+    requires work { IsInProgress pages.old work.old }
     requires notes { runs.now.notes ≡ indexes.old.notes }
     requires holds { HonestAt D.honest pages.old.disk
         → HoldsSomeFour (stand pages.old work.old) indexes.old }
-    ensures fits { OnOk result (Fits pages.new work.new) }
     ensures notes { OnOk result (indexes.new.notes ≡ indexes.old.notes) }
     ensures lays { OnOk result (HonestAt D.honest pages.new.disk → LaysFour
         (stand pages.old work.old) (stand pages.new work.new) indexes.old indexes.new
@@ -94,8 +89,7 @@ fn take_runs<D: Disk>(
     ensures balance { OnOk result (free_pages (stand pages.old work.old).used
         + leaf_count indexes.old ≡ free_pages (stand pages.new work.new).used
         + leaf_count indexes.new) }
-    ensures looks { LooksAt D.honest D.failures D.state result pages.old pages.new }
-    ensures answer { AnswersEdit result pages.new.closed ⊥ }
+    ensures edits { Edits D.Disk result ⊥ work.new pages.old pages.new }
 {
     match take_run(alloc, pages, work, &mut indexes.titles, &runs.titles) {
         Ok(()) => {}
@@ -131,13 +125,11 @@ impl SearchIndexes {
         work: &mut Work,
         runs: &Runs,
     ) -> Result<(), Fault>
-        requires open { pages.old.closed ≡ false }
-        requires fits { Fits pages.old work.old }
+        requires work { IsInProgress pages.old work.old }
         requires notes { runs.now.notes ≡ self.old.notes }
         requires holds { HonestAt D.honest pages.old.disk
             → HoldsSomeTexts (stand pages.old work.old) self.old }
         requires runs { (more : List (ℕ × List ℕ)) × AreRunsOf more runs.now }
-        ensures fits { OnOk result (Fits pages.new work.new) }
         ensures notes { OnOk result (self.new.notes ≡ self.old.notes) }
         ensures holds { OnOk result (HonestAt D.honest pages.new.disk
             → (before after : List Part) (parts : SearchParts) (tunes more : List (ℕ × List ℕ))
@@ -148,13 +140,12 @@ impl SearchIndexes {
         ensures balance { OnOk result (free_pages (stand pages.old work.old).used
             + leaf_count self.old ≡ free_pages (stand pages.new work.new).used
             + leaf_count self.new) }
-        ensures looks { LooksAt D.honest D.failures D.state result pages.old pages.new }
-        ensures answer { AnswersEdit result pages.new.closed (HonestAt D.honest pages.new.disk
+        ensures edits { Edits D.Disk result (HonestAt D.honest pages.new.disk
             → (before after : List Part) (parts : SearchParts) (tunes more : List (ℕ × List ℕ))
             → AreSmall tunes → AreSmall more → AreRunsOf more runs.now
             → HoldsTexts (stand pages.old work.old) self.old before after parts tunes
             → free_pages (stand pages.old work.old).used + leaf_count self.old
-            < most_entries * length (tunes ++ more)) }
+            < most_entries * length (tunes ++ more)) work.new pages.old pages.new }
     {
         match put_runs(alloc, pages, work, self, runs) {
             Ok(()) => Ok(()),
@@ -175,12 +166,10 @@ impl SearchIndexes {
         work: &mut Work,
         runs: &Runs,
     ) -> Result<(), Fault>
-        requires open { pages.old.closed ≡ false }
-        requires fits { Fits pages.old work.old }
+        requires work { IsInProgress pages.old work.old }
         requires notes { runs.now.notes ≡ self.old.notes }
         requires holds { HonestAt D.honest pages.old.disk
             → HoldsSomeTexts (stand pages.old work.old) self.old }
-        ensures fits { OnOk result (Fits pages.new work.new) }
         ensures notes { OnOk result (self.new.notes ≡ self.old.notes) }
         ensures holds { OnOk result (HonestAt D.honest pages.new.disk
             → (before after : List Part) (parts : SearchParts) (gone : ℕ × List ℕ)
@@ -192,8 +181,7 @@ impl SearchIndexes {
         ensures balance { OnOk result (free_pages (stand pages.old work.old).used
             + leaf_count self.old ≡ free_pages (stand pages.new work.new).used
             + leaf_count self.new) }
-        ensures looks { LooksAt D.honest D.failures D.state result pages.old pages.new }
-        ensures answer { AnswersEdit result pages.new.closed ⊥ }
+        ensures edits { Edits D.Disk result ⊥ work.new pages.old pages.new }
     {
         match take_runs(alloc, pages, work, self, runs) {
             Ok(()) => Ok(()),

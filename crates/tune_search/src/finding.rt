@@ -1,12 +1,11 @@
 // Queries looked for in the search indexes.
-ghost use Rattle.std.specs.Prelude.{◌≡◌, ℕ, List, Contains, IfOk, OnOk, false, true};
+ghost use Rattle.std.specs.Prelude.{◌≡◌, ℕ, List, Contains, IfOk, true};
 ghost use Rattle.index_keys.specs.Entries.{Entry};
 ghost use Rattle.index_keys.specs.Holdings.{HoldsEntries};
 ghost use Rattle.tune_index.specs.ListedLeaves.{index_with};
-ghost use Rattle.tune_pages.specs.Faults.{AnswersRead};
 ghost use Rattle.tune_pages.specs.Kept.{HonestAt};
-ghost use Rattle.tune_pages.specs.PageLooks.{LooksAt, SameStand};
-ghost use Rattle.tune_pages.specs.Work.{stand, Fits};
+ghost use Rattle.tune_pages.specs.Work.{stand};
+ghost use Rattle.tune_pages.specs.Progress.{IsInProgress, Reads};
 ghost use Rattle.tune_parts.specs.Parts.{Part};
 ghost use Rattle.tune_queries.specs.Queries.{finds};
 ghost use Rattle.tune_search.specs.IndexParts.{HoldsIndexAmong, HoldsSomeIndex, IndexParts};
@@ -31,8 +30,7 @@ pub(crate) fn values_for<D: Disk, K: Keyed<32>>(
     index: &Index<32>,
     query: &K::Query,
 ) -> Result<Vec<u32>, Fault>
-    requires open { pages.old.closed ≡ false }
-    requires fits { Fits pages.old work.now }
+    requires work { IsInProgress pages.old work.now }
     requires holds { HonestAt D.honest pages.old.disk
         → HoldsSomeIndex key_bytes (stand pages.old work.now) index.now }
     ensures finds { IfOk result (λ values. HonestAt D.honest pages.new.disk
@@ -41,11 +39,7 @@ pub(crate) fn values_for<D: Disk, K: Keyed<32>>(
         before after parts → (tunes : List (ℕ × K.Text)) → HoldsEntries K.keys_of tunes entries
         → (tune : ℕ × K.Text) → Contains tunes tune → K.matches query.now tune.1 ≡ true
         → Contains values.items tune.0) }
-    ensures fits { OnOk result (Fits pages.new work.now) }
-    ensures stand { OnOk result (SameStand (HonestAt D.honest pages.new.disk)
-        (stand pages.old work.now) (stand pages.new work.now)) }
-    ensures looks { LooksAt D.honest D.failures D.state result pages.old pages.new }
-    ensures answer { AnswersRead result pages.old.closed pages.new.closed }
+    ensures reads { Reads D.Disk result work.now pages.old pages.new }
 {
     let (low, high) = K::range(query);
     index.candidates(alloc, pages, work, &low, &high)
@@ -66,8 +60,7 @@ impl SearchIndexes {
         work: &Work,
         sought: &Sought<'_>,
     ) -> Result<Vec<u32>, Fault>
-        requires open { pages.old.closed ≡ false }
-        requires fits { Fits pages.old work.now }
+        requires work { IsInProgress pages.old work.now }
         requires holds { HonestAt D.honest pages.old.disk
             → HoldsSomeTexts (stand pages.old work.now) self.now }
         ensures finds { IfOk result (λ values. HonestAt D.honest pages.new.disk
@@ -75,11 +68,7 @@ impl SearchIndexes {
             → HoldsTexts (stand pages.old work.now) self.now before after parts tunes
             → (tune : ℕ × List ℕ) → Contains tunes tune
             → finds self.now.notes sought.now tune.1 ≡ true → Contains values.items tune.0) }
-        ensures fits { OnOk result (Fits pages.new work.now) }
-        ensures stand { OnOk result (SameStand (HonestAt D.honest pages.new.disk)
-            (stand pages.old work.now) (stand pages.new work.now)) }
-        ensures looks { LooksAt D.honest D.failures D.state result pages.old pages.new }
-        ensures answer { AnswersRead result pages.old.closed pages.new.closed }
+        ensures reads { Reads D.Disk result work.now pages.old pages.new }
     {
         match sought {
             Sought::Title(prefix) => {

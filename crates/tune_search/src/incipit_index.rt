@@ -1,17 +1,17 @@
 // An index of incipits, by eight notes or by twelve.
-ghost use Rattle.std.specs.Prelude.{◌≡◌, ◌+◌, ◌*◌, ◌<◌, ℕ, false, true, length, List};
+ghost use Rattle.std.specs.Prelude.{◌≡◌, ◌+◌, ◌*◌, ◌<◌, ℕ, true, length, List};
 ghost use Rattle.std.specs.Prelude.{Contains, IfErr, IfOk, OnOk};
 ghost use Rattle.tune_pages.specs.Claim.{IsChainFault, LooksOpening};
-ghost use Rattle.tune_pages.specs.Faults.{AnswersRead, free_pages, pages_for};
+ghost use Rattle.tune_pages.specs.Faults.{free_pages, pages_for};
 ghost use Rattle.tune_pages.specs.FreePages.{TakesAtMost};
 ghost use Rattle.tune_pages.specs.Kept.{HonestAt};
-ghost use Rattle.tune_pages.specs.PageLooks.{LooksAt, SameStand};
-ghost use Rattle.tune_pages.specs.Work.{stand, Fits};
+ghost use Rattle.tune_pages.specs.Work.{stand};
+ghost use Rattle.tune_pages.specs.Progress.{IsInProgress, Reads};
 ghost use Rattle.index_keys.specs.Entries.{Entry, IsRising, inserted_all, removed_all};
 ghost use Rattle.index_keys.specs.Holdings.{HoldsEntries};
 ghost use Rattle.tune_incipit.specs.Incipits.{finds_steps};
 ghost use Rattle.tune_incipit.specs.ScaleAndIncipitKeys.{incipit_keys};
-ghost use Rattle.tune_index.specs.IndexAnswers.{AnswersEdit};
+ghost use Rattle.tune_index.specs.IndexAnswers.{Edits};
 ghost use Rattle.tune_index.specs.Indexes.{KeepsBalance};
 ghost use Rattle.tune_index.specs.ListedLeaves.{IsStored, LoadsIndex, index_with, pages_claimed};
 ghost use Rattle.tune_parts.specs.Parts.{Part};
@@ -132,14 +132,12 @@ impl IncipitIndex {
         work: &mut Work,
         run: &IncipitEntries,
     ) -> Result<(), Fault>
-        requires open { pages.old.closed ≡ false }
-        requires fits { Fits pages.old work.old }
+        requires work { IsInProgress pages.old work.old }
         requires notes { notes_of_entries run.now ≡ notes_of_index self.old }
         requires index { HonestAt D.honest pages.old.disk → HoldsSomeIndex
             (incipit_bytes (notes_of_index self.old)) (stand pages.old work.old)
             (shape_of self.old) }
         requires rising { IsRising (entries_of_incipits run.now) }
-        ensures fits { OnOk result (Fits pages.new work.new) }
         ensures notes { OnOk result (notes_of_index self.new ≡ notes_of_index self.old) }
         ensures lays { OnOk result (HonestAt D.honest pages.new.disk → LaysIndex
             (incipit_bytes (notes_of_index self.old)) (stand pages.old work.old)
@@ -147,13 +145,13 @@ impl IncipitIndex {
             (λ entries. inserted_all (entries_of_incipits run.now) entries)) }
         ensures balance { OnOk result (KeepsBalance (stand pages.old work.old)
             (stand pages.new work.new) (shape_of self.old).pages (shape_of self.new).pages) }
-        ensures looks { LooksAt D.honest D.failures D.state result pages.old pages.new }
-        ensures answer { AnswersEdit result pages.new.closed (HonestAt D.honest pages.new.disk
+        ensures edits { Edits D.Disk result (HonestAt D.honest pages.new.disk
             → (before after : List Part) (parts : IndexParts) (entries : List Entry)
-            → HoldsIndexAmong (incipit_bytes (notes_of_index self.old))
-            (stand pages.old work.old) (index_with (shape_of self.old) entries) before after parts
+            → HoldsIndexAmong (incipit_bytes (notes_of_index self.old)) (stand pages.old work.old)
+            (index_with (shape_of self.old) entries) before after parts
             → free_pages (stand pages.old work.old).used + length (shape_of self.old).pages
-            < length (inserted_all (entries_of_incipits run.now) entries)) }
+            < length (inserted_all (entries_of_incipits run.now) entries)) work.new pages.old
+            pages.new }
     {
         match self {
             IncipitIndex::Eight(index) => match run {
@@ -175,13 +173,11 @@ impl IncipitIndex {
         work: &mut Work,
         run: &IncipitEntries,
     ) -> Result<(), Fault>
-        requires open { pages.old.closed ≡ false }
-        requires fits { Fits pages.old work.old }
+        requires work { IsInProgress pages.old work.old }
         requires notes { notes_of_entries run.now ≡ notes_of_index self.old }
         requires index { HonestAt D.honest pages.old.disk → HoldsSomeIndex
             (incipit_bytes (notes_of_index self.old)) (stand pages.old work.old)
             (shape_of self.old) }
-        ensures fits { OnOk result (Fits pages.new work.new) }
         ensures notes { OnOk result (notes_of_index self.new ≡ notes_of_index self.old) }
         ensures lays { OnOk result (HonestAt D.honest pages.new.disk → LaysIndex
             (incipit_bytes (notes_of_index self.old)) (stand pages.old work.old)
@@ -189,8 +185,7 @@ impl IncipitIndex {
             (λ entries. removed_all (entries_of_incipits run.now) entries)) }
         ensures balance { OnOk result (KeepsBalance (stand pages.old work.old)
             (stand pages.new work.new) (shape_of self.old).pages (shape_of self.new).pages) }
-        ensures looks { LooksAt D.honest D.failures D.state result pages.old pages.new }
-        ensures answer { AnswersEdit result pages.new.closed ⊥ }
+        ensures edits { Edits D.Disk result ⊥ work.new pages.old pages.new }
     {
         match self {
             IncipitIndex::Eight(index) => match run {
@@ -211,12 +206,10 @@ impl IncipitIndex {
         pages: &mut Pages<D>,
         work: &mut Work,
     ) -> Result<u32, Fault>
-        requires open { pages.old.closed ≡ false }
-        requires fits { Fits pages.old work.old }
+        requires work { IsInProgress pages.old work.old }
         requires index { HonestAt D.honest pages.old.disk → HoldsSomeIndex
             (incipit_bytes (notes_of_index self.old)) (stand pages.old work.old)
             (shape_of self.old) }
-        ensures fits { OnOk result (Fits pages.new work.new) }
         ensures notes { OnOk result (notes_of_index self.new ≡ notes_of_index self.old) }
         ensures lays { OnOk result (HonestAt D.honest pages.new.disk → LaysIndex
             (incipit_bytes (notes_of_index self.old)) (stand pages.old work.old)
@@ -228,8 +221,7 @@ impl IncipitIndex {
         ensures takes { HonestAt D.honest pages.new.disk
             → TakesAtMost (pages_for (4 * length (shape_of self.old).pages)) result
             (stand pages.old work.old) (stand pages.new work.new) }
-        ensures looks { LooksAt D.honest D.failures D.state result pages.old pages.new }
-        ensures answer { AnswersEdit result pages.new.closed (Unit {0}) }
+        ensures edits { Edits D.Disk result (Unit {0}) work.new pages.old pages.new }
     {
         match self {
             IncipitIndex::Eight(index) => store_list(alloc, pages, work, index),
@@ -245,8 +237,7 @@ impl IncipitIndex {
         work: &Work,
         front: &SomeSteps,
     ) -> Result<Vec<u32>, Fault>
-        requires open { pages.old.closed ≡ false }
-        requires fits { Fits pages.old work.now }
+        requires work { IsInProgress pages.old work.now }
         requires holds { HonestAt D.honest pages.old.disk → HoldsSomeIndex
             (incipit_bytes (notes_of_index self.now)) (stand pages.old work.now)
             (shape_of self.now) }
@@ -259,11 +250,7 @@ impl IncipitIndex {
             → (tune : ℕ × List ℕ) → Contains tunes tune
             → finds_steps (notes_of_index self.now) front.now.steps tune.1 ≡ true
             → Contains values.items tune.0) }
-        ensures fits { OnOk result (Fits pages.new work.now) }
-        ensures stand { OnOk result (SameStand (HonestAt D.honest pages.new.disk)
-            (stand pages.old work.now) (stand pages.new work.now)) }
-        ensures looks { LooksAt D.honest D.failures D.state result pages.old pages.new }
-        ensures answer { AnswersRead result pages.old.closed pages.new.closed }
+        ensures reads { Reads D.Disk result work.now pages.old pages.new }
     {
         match self {
             IncipitIndex::Eight(index) => {

@@ -1,13 +1,13 @@
 // One index, changed among all other parts of an archive.
-ghost use Rattle.std.specs.Prelude.{◌≡◌, ◌+◌, ◌*◌, ◌<◌, false, true, length, List, IfOk, OnOk};
+ghost use Rattle.std.specs.Prelude.{◌≡◌, ◌+◌, ◌*◌, ◌<◌, true, length, List, IfOk, OnOk};
 ghost use Rattle.tune_pages.specs.Faults.{free_pages, pages_for};
 ghost use Rattle.tune_pages.specs.FreePages.{TakesAtMost};
 ghost use Rattle.tune_pages.specs.Kept.{HonestAt};
-ghost use Rattle.tune_pages.specs.PageLooks.{LooksAt};
-ghost use Rattle.tune_pages.specs.Work.{stand, Fits};
+ghost use Rattle.tune_pages.specs.Work.{stand};
+ghost use Rattle.tune_pages.specs.Progress.{IsInProgress};
 ghost use Rattle.index_keys.specs.Entries.{Entry, IsRising, inserted_all, removed};
 ghost use Rattle.index_keys.specs.Entries.{removed_all};
-ghost use Rattle.tune_index.specs.IndexAnswers.{AnswersEdit};
+ghost use Rattle.tune_index.specs.IndexAnswers.{Edits};
 ghost use Rattle.tune_index.specs.Indexes.{KeepsBalance};
 ghost use Rattle.tune_index.specs.ListedLeaves.{index_with};
 ghost use Rattle.tune_parts.specs.Parts.{Part};
@@ -33,24 +33,20 @@ pub fn put_run<D: Disk, const W: usize>(
     index: &mut Index<W>,
     run: &[(IndexKey<W>, u32)],
 ) -> Result<(), Fault>
-    requires open { pages.old.closed ≡ false }
-    requires fits { Fits pages.old work.old }
+    requires work { IsInProgress pages.old work.old }
     requires index { HonestAt D.honest pages.old.disk
         → HoldsSomeIndex W (stand pages.old work.old) index.old }
     requires rising { IsRising run.now }
-    ensures fits { OnOk result (Fits pages.new work.new) }
     ensures lays { OnOk result (HonestAt D.honest pages.new.disk → LaysIndex W
         (stand pages.old work.old) (stand pages.new work.new) index.old index.new
         (λ entries. inserted_all run.now entries)) }
     ensures balance { OnOk result (KeepsBalance (stand pages.old work.old)
         (stand pages.new work.new) index.old.pages index.new.pages) }
-    ensures looks { LooksAt D.honest D.failures D.state result pages.old pages.new }
-    ensures answer { AnswersEdit result pages.new.closed (HonestAt D.honest pages.new.disk
+    ensures edits { Edits D.Disk result (HonestAt D.honest pages.new.disk
         → (before after : List Part) (parts : IndexParts) (entries : List Entry)
         → HoldsIndexAmong W (stand pages.old work.old) (index_with index.old entries) before after
-        parts
-        → free_pages (stand pages.old work.old).used + length index.old.pages
-        < length (inserted_all run.now entries)) }
+        parts → free_pages (stand pages.old work.old).used + length index.old.pages
+        < length (inserted_all run.now entries)) work.new pages.old pages.new }
 {
     match index.insert_all(alloc, pages, work, run) {
         Ok(()) => Ok(()),
@@ -67,18 +63,15 @@ fn take_entry<D: Disk, const W: usize>(
     key: &IndexKey<W>,
     value: u32,
 ) -> Result<(), Fault>
-    requires open { pages.old.closed ≡ false }
-    requires fits { Fits pages.old work.old }
+    requires work { IsInProgress pages.old work.old }
     requires index { HonestAt D.honest pages.old.disk
         → HoldsSomeIndex W (stand pages.old work.old) index.old }
-    ensures fits { OnOk result (Fits pages.new work.new) }
     ensures lays { OnOk result (HonestAt D.honest pages.new.disk → LaysIndex W
         (stand pages.old work.old) (stand pages.new work.new) index.old index.new
         (λ entries. removed (key.now, value) entries)) }
     ensures balance { OnOk result (KeepsBalance (stand pages.old work.old)
         (stand pages.new work.new) index.old.pages index.new.pages) }
-    ensures looks { LooksAt D.honest D.failures D.state result pages.old pages.new }
-    ensures answer { AnswersEdit result pages.new.closed ⊥ }
+    ensures edits { Edits D.Disk result ⊥ work.new pages.old pages.new }
 {
     match index.remove(alloc, pages, work, key, value) {
         Ok(()) => Ok(()),
@@ -99,18 +92,15 @@ pub fn take_run<D: Disk, const W: usize>(
     index: &mut Index<W>,
     run: &[(IndexKey<W>, u32)],
 ) -> Result<(), Fault>
-    requires open { pages.old.closed ≡ false }
-    requires fits { Fits pages.old work.old }
+    requires work { IsInProgress pages.old work.old }
     requires index { HonestAt D.honest pages.old.disk
         → HoldsSomeIndex W (stand pages.old work.old) index.old }
-    ensures fits { OnOk result (Fits pages.new work.new) }
     ensures lays { OnOk result (HonestAt D.honest pages.new.disk → LaysIndex W
         (stand pages.old work.old) (stand pages.new work.new) index.old index.new
         (λ entries. removed_all run.now entries)) }
     ensures balance { OnOk result (KeepsBalance (stand pages.old work.old)
         (stand pages.new work.new) index.old.pages index.new.pages) }
-    ensures looks { LooksAt D.honest D.failures D.state result pages.old pages.new }
-    ensures answer { AnswersEdit result pages.new.closed ⊥ }
+    ensures edits { Edits D.Disk result ⊥ work.new pages.old pages.new }
 {
     for entry in run {
         match take_entry(alloc, pages, work, index, &entry.0, entry.1) {
@@ -134,11 +124,9 @@ pub fn store_list<D: Disk, const W: usize>(
     work: &mut Work,
     index: &mut Index<W>,
 ) -> Result<u32, Fault>
-    requires open { pages.old.closed ≡ false }
-    requires fits { Fits pages.old work.old }
+    requires work { IsInProgress pages.old work.old }
     requires index { HonestAt D.honest pages.old.disk
         → HoldsSomeIndex W (stand pages.old work.old) index.old }
-    ensures fits { OnOk result (Fits pages.new work.new) }
     ensures lays { OnOk result (HonestAt D.honest pages.new.disk → LaysIndex W
         (stand pages.old work.old) (stand pages.new work.new) index.old index.new
         (λ entries. entries)) }
@@ -148,8 +136,7 @@ pub fn store_list<D: Disk, const W: usize>(
     ensures takes { HonestAt D.honest pages.new.disk
         → TakesAtMost (pages_for (4 * length index.old.pages)) result
         (stand pages.old work.old) (stand pages.new work.new) }
-    ensures looks { LooksAt D.honest D.failures D.state result pages.old pages.new }
-    ensures answer { AnswersEdit result pages.new.closed (Unit {0}) }
+    ensures edits { Edits D.Disk result (Unit {0}) work.new pages.old pages.new }
 {
     match index.store(alloc, pages, work) {
         Ok(first) => Ok(first),

@@ -1,11 +1,11 @@
 // Incipits by eight notes, brought to twelve.
-ghost use Rattle.std.specs.Prelude.{◌≡◌, ◌+◌, ◌<◌, [], ℕ, false, length, List, OnOk, IfOk};
+ghost use Rattle.std.specs.Prelude.{◌≡◌, ◌+◌, ◌<◌, [], ℕ, length, List, OnOk, IfOk};
 ghost use Rattle.tune_pages.specs.Faults.{free_pages};
 ghost use Rattle.tune_pages.specs.Kept.{HonestAt};
-ghost use Rattle.tune_pages.specs.PageLooks.{LooksAt};
-ghost use Rattle.tune_pages.specs.Work.{stand, Fits};
+ghost use Rattle.tune_pages.specs.Work.{stand};
+ghost use Rattle.tune_pages.specs.Progress.{IsInProgress};
 ghost use Rattle.index_keys.specs.Entries.{IsRising, inserted_all};
-ghost use Rattle.tune_index.specs.IndexAnswers.{AnswersEdit};
+ghost use Rattle.tune_index.specs.IndexAnswers.{Edits};
 ghost use Rattle.tune_parts.specs.Parts.{Part};
 ghost use Rattle.tune_search.specs.IncipitRuns.{AreIncipitsOf, HoldsIncipits};
 ghost use Rattle.tune_search.specs.IndexParts.{HoldsSomeIndex, LaysIndex};
@@ -28,18 +28,15 @@ fn take_all<D: Disk, const W: usize>(
     work: &mut Work,
     index: &mut Index<W>,
 ) -> Result<(), Fault>
-    requires open { pages.old.closed ≡ false }
-    requires fits { Fits pages.old work.old }
+    requires work { IsInProgress pages.old work.old }
     requires index { HonestAt D.honest pages.old.disk
         → HoldsSomeIndex W (stand pages.old work.old) index.old }
-    ensures fits { OnOk result (Fits pages.new work.new) }
     ensures lays { OnOk result (HonestAt D.honest pages.new.disk → LaysIndex W
         (stand pages.old work.old) (stand pages.new work.new) index.old index.new
         (λ _. [])) }
     ensures balance { OnOk result (free_pages (stand pages.new work.new).used
         ≡ free_pages (stand pages.old work.old).used + length index.old.pages) }
-    ensures looks { LooksAt D.honest D.failures D.state result pages.old pages.new }
-    ensures answer { AnswersEdit result pages.new.closed ⊥ }
+    ensures edits { Edits D.Disk result ⊥ work.new pages.old pages.new }
 {
     match index.clear(pages, work) {
         Ok(()) => Ok(()),
@@ -55,22 +52,19 @@ fn lengthen<D: Disk>(
     index: &mut Index<32>,
     run: &IncipitRun,
 ) -> Result<Index<48>, Fault>
-    requires open { pages.old.closed ≡ false }
-    requires fits { Fits pages.old work.old }
+    requires work { IsInProgress pages.old work.old }
     requires index { HonestAt D.honest pages.old.disk
         → HoldsSomeIndex 32 (stand pages.old work.old) index.old }
     requires rising { IsRising run.now }
-    ensures fits { OnOk result (Fits pages.new work.new) }
     ensures lays { IfOk result (λ longer. HonestAt D.honest pages.new.disk
         → Lengthens (stand pages.old work.old) (stand pages.new work.new) index.old longer
         run.now) }
     ensures balance { IfOk result (λ longer. HonestAt D.honest pages.new.disk
         → free_pages (stand pages.old work.old).used + length index.old.pages
         ≡ free_pages (stand pages.new work.new).used + length longer.pages) }
-    ensures looks { LooksAt D.honest D.failures D.state result pages.old pages.new }
-    ensures answer { AnswersEdit result pages.new.closed (HonestAt D.honest pages.new.disk
+    ensures edits { Edits D.Disk result (HonestAt D.honest pages.new.disk
         → free_pages (stand pages.old work.old).used + length index.old.pages
-        < length (inserted_all run.now [])) }
+        < length (inserted_all run.now [])) work.new pages.old pages.new }
 {
     match take_all(pages, work, index) {
         Ok(()) => {}
@@ -99,13 +93,11 @@ impl SearchIndexes {
         work: &mut Work,
         run: &IncipitRun,
     ) -> Result<(), Fault>
-        requires open { pages.old.closed ≡ false }
-        requires fits { Fits pages.old work.old }
+        requires work { IsInProgress pages.old work.old }
         requires notes { self.old.notes ≡ 8 }
         requires run { (tunes : List (ℕ × List ℕ)) × AreIncipitsOf tunes run.now }
         requires holds { HonestAt D.honest pages.old.disk
             → HoldsIncipits (stand pages.old work.old) self.old run.now }
-        ensures fits { OnOk result (Fits pages.new work.new) }
         ensures notes { OnOk result (self.new.notes ≡ 12) }
         ensures holds { OnOk result (HonestAt D.honest pages.new.disk
             → (before after : List Part) (parts : SearchParts) (tunes : List (ℕ × List ℕ))
@@ -116,12 +108,11 @@ impl SearchIndexes {
         ensures balance { OnOk result (HonestAt D.honest pages.new.disk
             → free_pages (stand pages.old work.old).used + leaf_count self.old
             ≡ free_pages (stand pages.new work.new).used + leaf_count self.new) }
-        ensures looks { LooksAt D.honest D.failures D.state result pages.old pages.new }
-        ensures answer { AnswersEdit result pages.new.closed (HonestAt D.honest pages.new.disk
+        ensures edits { Edits D.Disk result (HonestAt D.honest pages.new.disk
             → (before after : List Part) (parts : SearchParts) (tunes : List (ℕ × List ℕ))
-            → AreIncipitsOf tunes run.now
-            → HoldsTexts (stand pages.old work.old) self.old before after parts tunes
-            → free_pages (stand pages.old work.old).used < length tunes) }
+            → AreIncipitsOf tunes run.now → HoldsTexts (stand pages.old work.old) self.old before
+            after parts tunes → free_pages (stand pages.old work.old).used
+            < length tunes) work.new pages.old pages.new }
     {
         let longer = match &mut self.incipits {
             IncipitIndex::Eight(index) => match lengthen(alloc, pages, work, index, run) {

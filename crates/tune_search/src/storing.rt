@@ -1,10 +1,10 @@
 // The lists of the search indexes, stored.
-ghost use Rattle.std.specs.Prelude.{◌≡◌, ℕ, false, List, IfOk, OnOk};
+ghost use Rattle.std.specs.Prelude.{◌≡◌, ℕ, List, IfOk, OnOk};
 ghost use Rattle.tune_pages.specs.FreePages.{TakesAtMost};
 ghost use Rattle.tune_pages.specs.Kept.{HonestAt};
-ghost use Rattle.tune_pages.specs.PageLooks.{LooksAt};
-ghost use Rattle.tune_pages.specs.Work.{stand, Fits};
-ghost use Rattle.tune_index.specs.IndexAnswers.{AnswersEdit};
+ghost use Rattle.tune_pages.specs.Work.{stand};
+ghost use Rattle.tune_pages.specs.Progress.{IsInProgress};
+ghost use Rattle.tune_index.specs.IndexAnswers.{Edits};
 ghost use Rattle.tune_parts.specs.Parts.{Part};
 ghost use Rattle.tune_search.specs.Inside.Four.{HoldsSomeFour, LaysFour};
 ghost use Rattle.tune_search.specs.SearchPages.{AreListed, firsts_in, leaf_count, lists_of};
@@ -24,11 +24,9 @@ fn store_lists<D: Disk>(
     work: &mut Work,
     indexes: &mut SearchIndexes,
 ) -> Result<SearchFirsts, Fault>
-    requires open { pages.old.closed ≡ false }
-    requires fits { Fits pages.old work.old }
+    requires work { IsInProgress pages.old work.old }
     requires holds { HonestAt D.honest pages.old.disk
         → HoldsSomeFour (stand pages.old work.old) indexes.old }
-    ensures fits { OnOk result (Fits pages.new work.new) }
     ensures notes { OnOk result (indexes.new.notes ≡ indexes.old.notes) }
     ensures lays { OnOk result (HonestAt D.honest pages.new.disk → LaysFour
         (stand pages.old work.old) (stand pages.new work.new) indexes.old indexes.new
@@ -38,8 +36,7 @@ fn store_lists<D: Disk>(
     ensures leaves { OnOk result (leaf_count indexes.new ≡ leaf_count indexes.old) }
     ensures takes { HonestAt D.honest pages.new.disk → TakesAtMost (lists_of indexes.old) result
         (stand pages.old work.old) (stand pages.new work.new) }
-    ensures looks { LooksAt D.honest D.failures D.state result pages.old pages.new }
-    ensures answer { AnswersEdit result pages.new.closed (Unit {0}) }
+    ensures edits { Edits D.Disk result (Unit {0}) work.new pages.old pages.new }
 {
     let titles = match store_list(alloc, pages, work, &mut indexes.titles) {
         Ok(first) => first,
@@ -79,11 +76,9 @@ impl SearchIndexes {
         pages: &mut Pages<D>,
         work: &mut Work,
     ) -> Result<SearchFirsts, Fault>
-        requires open { pages.old.closed ≡ false }
-        requires fits { Fits pages.old work.old }
+        requires work { IsInProgress pages.old work.old }
         requires holds { HonestAt D.honest pages.old.disk
             → HoldsSomeTexts (stand pages.old work.old) self.old }
-        ensures fits { OnOk result (Fits pages.new work.new) }
         ensures notes { OnOk result (self.new.notes ≡ self.old.notes) }
         ensures holds { OnOk result (HonestAt D.honest pages.new.disk
             → (before after : List Part) (parts : SearchParts) (tunes : List (ℕ × List ℕ))
@@ -95,8 +90,7 @@ impl SearchIndexes {
         ensures leaves { OnOk result (leaf_count self.new ≡ leaf_count self.old) }
         ensures takes { HonestAt D.honest pages.new.disk → TakesAtMost (lists_of self.old) result
             (stand pages.old work.old) (stand pages.new work.new) }
-        ensures looks { LooksAt D.honest D.failures D.state result pages.old pages.new }
-        ensures answer { AnswersEdit result pages.new.closed (Unit {0}) }
+        ensures edits { Edits D.Disk result (Unit {0}) work.new pages.old pages.new }
     {
         match store_lists(alloc, pages, work, self) {
             Ok(firsts) => Ok(firsts),

@@ -18,24 +18,24 @@ returns-in_err-next-clause-never_full g c =
     let old = c.args.pages.now in
     let contents = c.args.contents.now in
     rw (p.1, p.2) (λ h.
-    let was = c.in_err-next.ensures.looks.was_honest h in
+    let was = c.in_err-next.ensures.edits.looks.was_honest h in
     never_full (stand old c.in_ok-work.work) (stand_of old) contents c.args.change c.in_err-next.field-0.0 c.law_of_state_pages.ensures
     c.in_ok-work.ensures.stand (c.requires.within was) c.requires.many (c.limit-limit.ensures.sized c.requires.open was)
     (c.in_err-next.ensures.takes h))
 
 pub returns-in_err-finish-clause-moments : goal.returns-in_err-finish-clause-moments
 returns-in_err-finish-clause-moments g c = λ h.
-    (let looks = c.in_ok-next.ensures.looks in
+    (let looks = c.in_ok-next.ensures.edits.looks in
     let mid = c.in_err-finish.ensures.calls.was_honest h in
     passes_laid g.D.Disk.honest g.D.Disk.state c.args.pages.now c.lay.new.pages c.lay.new.work c.args.contents.now
     (memory_after c.in_ok-next.next c.args.contents.now) c.args.change
-    (stand c.args.pages.now c.in_ok-work.work) c.in_ok-work.ensures.stand (c.in_ok-next.ensures.lays mid) c.in_ok-next.ensures.fits looks.same
-    (c.requires.few (looks.was_honest mid)) c.finish.new.self mid (looks.same_state mid) (c.in_err-finish.ensures.moments h c.in_ok-next.ensures.answer))
+    (stand c.args.pages.now c.in_ok-work.work) c.in_ok-work.ensures.stand (c.in_ok-next.ensures.lays mid) c.in_ok-next.ensures.edits.fits looks.same
+    (c.requires.few (looks.was_honest mid)) c.finish.new.self mid (looks.same_state mid) (c.in_err-finish.ensures.moments h c.in_ok-next.ensures.edits.answer))
 
 pub give_pages-requires-clause-marks : goal.give_pages-requires-clause-marks
 give_pages-requires-clause-marks g c =
-    let count = same_marks g.D.Disk.honest c.args.pages.now c.lay.new.pages c.finish.new.self c.lay.new.work c.in_ok-next.ensures.fits
-    c.in_ok-next.ensures.looks.same c.in_ok-finish.ensures.used in
+    let count = same_marks g.D.Disk.honest c.args.pages.now c.lay.new.pages c.finish.new.self c.lay.new.work c.in_ok-next.ensures.edits.fits
+    c.in_ok-next.ensures.edits.looks.same c.in_ok-finish.ensures.used in
     marks_within c.args.change c.args.contents.now c.in_ok-next.next.layout c.finish.new.self.used (count ∙ c.requires.many) c.in_ok-next.ensures.layout
 
 pub returns-clause-moments : goal.returns-clause-moments
@@ -44,13 +44,13 @@ returns-clause-moments g c = λ h.
     let old = c.args.pages.now in
     let same = c.give_pages.ensures.same.0 in
     let here = subst (HonestAt g.D.Disk.honest) same h in
-    let looks = c.in_ok-next.ensures.looks in
+    let looks = c.in_ok-next.ensures.edits.looks in
     let mid = c.in_ok-finish.ensures.calls.was_honest here in
     subst (λ at. PassesChange (state_at state old.disk) (state_at state at) (stand_of old) c.args.contents.now c.args.change) (sym same)
     (passes_laid g.D.Disk.honest state old c.lay.new.pages c.lay.new.work c.args.contents.now (memory_after c.in_ok-next.next c.args.contents.now) c.args.change
-    (stand old c.in_ok-work.work) c.in_ok-work.ensures.stand (c.in_ok-next.ensures.lays mid) c.in_ok-next.ensures.fits looks.same
+    (stand old c.in_ok-work.work) c.in_ok-work.ensures.stand (c.in_ok-next.ensures.lays mid) c.in_ok-next.ensures.edits.fits looks.same
     (c.requires.few (looks.was_honest mid)) c.finish.new.self mid (looks.same_state mid)
-    (c.in_ok-finish.ensures.moments here c.in_ok-next.ensures.answer)))
+    (c.in_ok-finish.ensures.moments here c.in_ok-next.ensures.edits.answer)))
 
 pub returns-clause-laid : goal.returns-clause-laid
 returns-clause-laid g c = λ h.
@@ -58,14 +58,14 @@ returns-clause-laid g c = λ h.
     let old = c.args.pages.now in
     let same = c.give_pages.ensures.same in
     let here = subst (HonestAt g.D.Disk.honest) same.0 h in
-    let looks = c.in_ok-next.ensures.looks in
+    let looks = c.in_ok-next.ensures.edits.looks in
     let mid = c.in_ok-finish.ensures.calls.was_honest here in
-    let count = same_marks g.D.Disk.honest old c.lay.new.pages c.finish.new.self c.lay.new.work c.in_ok-next.ensures.fits looks.same
+    let count = same_marks g.D.Disk.honest old c.lay.new.pages c.finish.new.self c.lay.new.work c.in_ok-next.ensures.edits.fits looks.same
     c.in_ok-finish.ensures.used in
     has_more state old c.finish.new.self c.give_pages.new.pages c.args.contents.now c.accept.new.self c.args.change _ same.0 same.1
     c.give_pages.ensures.more count
     (has_laid g.D.Disk.honest state old c.lay.new.pages c.lay.new.work c.args.contents.now (memory_after c.in_ok-next.next c.args.contents.now) c.args.change
-    (stand old c.in_ok-work.work) c.in_ok-work.ensures.stand (c.in_ok-next.ensures.lays mid) c.in_ok-next.ensures.fits looks.same
+    (stand old c.in_ok-work.work) c.in_ok-work.ensures.stand (c.in_ok-next.ensures.lays mid) c.in_ok-next.ensures.edits.fits looks.same
     (c.requires.few (looks.was_honest mid)) c.accept.new.self c.accept.ensures c.finish.new.self (c.in_ok-finish.ensures.pages here) c.in_ok-finish.ensures.used
     (c.in_ok-finish.ensures.rest here)))
 

@@ -1,4 +1,4 @@
-use Rattle.std.proofs.Common.{◌≡◌, List, ap, refl, ◌∙◌, subst, sym, arith}
+use Rattle.std.proofs.Common.{rules, ◌≡◌, List, ap, refl, ◌∙◌, subst, sym, arith}
 use Rattle.std.proofs.lemmas.Result.{err_from_is_err_and}
 use Rattle.tune_pages.specs.Work.{stand}
 use Rattle.tune_search.specs.Searches.{SearchShape}
@@ -30,7 +30,7 @@ lay_sets_where-requires-clause-chain g c = λ h.
     let same : keeps_of c.in_ok-copy_numbers.field-0 c.in_ok-copy_searches.field-0 old.rows.items ≡ keeps_in old =
     λ i. keeps_of (c.in_ok-copy_numbers.ensures.numbers i) (c.in_ok-copy_searches.ensures.searches i) old.rows.items in
     let lays = subst (λ (k : Keeps). LaysIndexed old.layout s mid k is c.args.change.now) same (c.in_ok-rows.ensures.lays h) in
-    sets_there s mid old is c.args.change.now c.requires.possible lays (c.requires.holds (c.in_ok-rows.ensures.looks.was_honest h)))
+    sets_there s mid old is c.args.change.now c.requires.possible lays (c.requires.holds (c.in_ok-rows.ensures.edits.looks.was_honest h)))
 
 pub returns-clause-lays : goal.returns-clause-lays
 returns-clause-lays g c = λ h.
@@ -47,8 +47,8 @@ returns-clause-lays g c = λ h.
       sets = c.in_ok-sets.sets;
       firsts = record { numbers = c.in_ok-rows.numbers; searches = c.in_ok-rows.searches; sets = c.in_ok-sets_first.sets_first };
     } in
-    let h2 = c.in_ok-lay_root.ensures.looks.was_honest h in
-    let h1 = c.in_ok-sets_first.ensures.looks.was_honest h2 in
+    let h2 = c.in_ok-lay_root.ensures.edits.looks.was_honest h in
+    let h1 = c.in_ok-sets_first.ensures.edits.looks.was_honest h2 in
     let same : keeps_of c.in_ok-copy_numbers.field-0 c.in_ok-copy_searches.field-0 old.rows.items ≡ keeps_in old =
     λ i. keeps_of (c.in_ok-copy_numbers.ensures.numbers i) (c.in_ok-copy_searches.ensures.searches i) old.rows.items in
     let is = keeps_of next.numbers next.searches (rows_after next.rows old.rows.items) in
@@ -90,7 +90,7 @@ returns-in_err-sets_first-clause-takes g c = λ h state holds within is.
     (let p = err_from_is_err_and c.from_residual-in_err-sets_first.result c.from_residual-in_err-sets_first.ensures.1 in
     let s = stand c.args.pages.now c.args.work.now in
     let old = c.args.contents.now in
-    let h1 = c.in_err-sets_first.ensures.looks.was_honest h in
+    let h1 = c.in_err-sets_first.ensures.edits.looks.was_honest h in
     let same : keeps_of c.in_ok-copy_numbers.field-0 c.in_ok-copy_searches.field-0 old.rows.items ≡ keeps_in old =
     λ i. keeps_of (c.in_ok-copy_numbers.ensures.numbers i) (c.in_ok-copy_searches.ensures.searches i) old.rows.items in
     let first = c.in_ok-rows.ensures.takes h1 state.tunes old.sets
@@ -110,8 +110,8 @@ pub returns-clause-takes : goal.returns-clause-takes
 returns-clause-takes g c = λ h state holds within is.
     (let s = stand c.args.pages.now c.args.work.now in
     let old = c.args.contents.now in
-    let h2 = c.in_ok-lay_root.ensures.looks.was_honest h in
-    let h1 = c.in_ok-sets_first.ensures.looks.was_honest h2 in
+    let h2 = c.in_ok-lay_root.ensures.edits.looks.was_honest h in
+    let h1 = c.in_ok-sets_first.ensures.edits.looks.was_honest h2 in
     let same : keeps_of c.in_ok-copy_numbers.field-0 c.in_ok-copy_searches.field-0 old.rows.items ≡ keeps_in old =
     λ i. keeps_of (c.in_ok-copy_numbers.ensures.numbers i) (c.in_ok-copy_searches.ensures.searches i) old.rows.items in
     let first = c.in_ok-rows.ensures.takes h1 state.tunes old.sets
@@ -122,16 +122,22 @@ returns-clause-takes g c = λ h state holds within is.
     let most = change_count s old c.args.change.now state holds c.requires.possible is c.requires.stays in
     omega (arith, first, second, third, sets, most))
 
-pub returns-in_err-sets_first-clause-looks : goal.returns-in_err-sets_first-clause-looks
-returns-in_err-sets_first-clause-looks g c =
-    let p = err_from_is_err_and c.from_residual-in_err-sets_first.result c.from_residual-in_err-sets_first.ensures.1 in
-    rw (p.1, p.2) (look_fails g.D.Disk.honest g.D.Disk.failures g.D.Disk.state _ _ c.args.pages.now c.lay_indexed.new.pages c.lay_sets_where.new.pages
-    c.in_ok-rows.ensures.looks c.in_err-sets_first.ensures.looks)
+pub returns-in_err-sets_first-clause-edits : goal.returns-in_err-sets_first-clause-edits
+returns-in_err-sets_first-clause-edits g c =
+    let p = err_from_is_err_and c.from_residual-in_err-sets_first.result c.from_residual-in_err-sets_first.ensures.1 in record {
+      looks = rw (p.1, p.2) (look_fails g.D.Disk.honest g.D.Disk.failures g.D.Disk.state _ _ c.args.pages.now c.lay_indexed.new.pages c.lay_sets_where.new.pages
+          c.in_ok-rows.ensures.edits.looks c.in_err-sets_first.ensures.edits.looks);
+      answer = search rules;
+      fits = search rules;
+    }
 
-pub returns-in_err-lay_root-clause-looks : goal.returns-in_err-lay_root-clause-looks
-returns-in_err-lay_root-clause-looks g c =
+pub returns-in_err-lay_root-clause-edits : goal.returns-in_err-lay_root-clause-edits
+returns-in_err-lay_root-clause-edits g c =
     let p = err_from_is_err_and c.from_residual-in_err-lay_root.result c.from_residual-in_err-lay_root.ensures.1 in
     let two = look_next g.D.Disk.honest g.D.Disk.failures g.D.Disk.state _ _ c.args.pages.now c.lay_indexed.new.pages c.lay_sets_where.new.pages
-    c.in_ok-rows.ensures.looks c.in_ok-sets_first.ensures.looks in
-    rw (p.1, p.2) (look_fails g.D.Disk.honest g.D.Disk.failures g.D.Disk.state _ _ c.args.pages.now c.lay_sets_where.new.pages c.lay_root.new.pages two
-    c.in_err-lay_root.ensures.looks)
+    c.in_ok-rows.ensures.edits.looks c.in_ok-sets_first.ensures.edits.looks in record {
+      looks = rw (p.1, p.2) (look_fails g.D.Disk.honest g.D.Disk.failures g.D.Disk.state _ _ c.args.pages.now c.lay_sets_where.new.pages c.lay_root.new.pages
+          two c.in_err-lay_root.ensures.edits.looks);
+      answer = search rules;
+      fits = search rules;
+    }

@@ -21,8 +21,8 @@ lay_tunes-requires-clause-holds g c = λ h.
     (let s = stand c.args.pages.now c.args.work.now in
     let was = c.args.indexes.now in
     let held = c.args.rows.now.items in
-    let there = some_tunes c.args.layout s was.numbers was.searches held (c.requires.holds (c.in_ok-texts.ensures.looks.was_honest h)) in
-    subst (λ (t : Stand). HoldsSomeTunes t held) (sym (c.in_ok-texts.ensures.stand.same h)) there)
+    let there = some_tunes c.args.layout s was.numbers was.searches held (c.requires.holds (c.in_ok-texts.ensures.reads.looks.was_honest h)) in
+    subst (λ (t : Stand). HoldsSomeTunes t held) (sym (c.in_ok-texts.ensures.reads.stand.same h)) there)
 
 pub change_numbers-requires-clause-index : goal.change_numbers-requires-clause-index
 change_numbers-requires-clause-index g c = λ h.
@@ -32,10 +32,10 @@ change_numbers-requires-clause-index g c = λ h.
     let was = c.args.indexes.now in
     let held = c.args.rows.now.items in
     let rows = rows_after c.in_ok-made.made held in
-    let h1 = c.in_ok-made.ensures.looks.was_honest h in
-    let lays = lays_from s one mid held rows c.args.change.now (c.in_ok-texts.ensures.stand.same h1)
+    let h1 = c.in_ok-made.ensures.edits.looks.was_honest h in
+    let lays = lays_from s one mid held rows c.args.change.now (c.in_ok-texts.ensures.reads.stand.same h1)
     (c.in_ok-made.ensures.lays h) in
-    some_numbers c.args.layout s was.numbers was.searches held (c.requires.holds (c.in_ok-texts.ensures.looks.was_honest h1)) mid rows
+    some_numbers c.args.layout s was.numbers was.searches held (c.requires.holds (c.in_ok-texts.ensures.reads.looks.was_honest h1)) mid rows
     c.args.change.now lays)
 
 pub change_searches-requires-clause-holds : goal.change_searches-requires-clause-holds
@@ -47,12 +47,12 @@ change_searches-requires-clause-holds g c = λ h.
     let was = c.args.indexes.now in
     let held = c.args.rows.now.items in
     let rows = rows_after c.in_ok-made.made held in
-    let h2 = c.in_ok-numbers.ensures.looks.was_honest h in
-    let h1 = c.in_ok-made.ensures.looks.was_honest h2 in
-    let lays = lays_from s one mid held rows c.args.change.now (c.in_ok-texts.ensures.stand.same h1)
+    let h2 = c.in_ok-numbers.ensures.edits.looks.was_honest h in
+    let h1 = c.in_ok-made.ensures.edits.looks.was_honest h2 in
+    let lays = lays_from s one mid held rows c.args.change.now (c.in_ok-texts.ensures.reads.stand.same h1)
     (c.in_ok-made.ensures.lays h2) in
     let takes = c.in_ok-texts.ensures.gone h1 in
-    some_searches c.args.layout s was.numbers was.searches held (c.requires.holds (c.in_ok-texts.ensures.looks.was_honest h1)) mid late rows
+    some_searches c.args.layout s was.numbers was.searches held (c.requires.holds (c.in_ok-texts.ensures.reads.looks.was_honest h1)) mid late rows
     c.args.change.now c.change_numbers.new.numbers _ c.in_ok-texts.texts.gone lays (c.in_ok-numbers.ensures.lays h) takes)
 
 pub change_searches-requires-clause-gone_notes : goal.change_searches-requires-clause-gone_notes
@@ -75,11 +75,11 @@ returns-clause-lays g c = λ h.
     let rows = rows_after c.in_ok-made.made held in
     let gone = c.in-Ok.entries.gone.items in
     let come = c.in-Ok.entries.come.items in
-    let h3 = c.in_ok-searches.ensures.looks.was_honest h in
-    let h2 = c.in_ok-numbers.ensures.looks.was_honest h3 in
-    let h1 = c.in_ok-made.ensures.looks.was_honest h2 in
+    let h3 = c.in_ok-searches.ensures.edits.looks.was_honest h in
+    let h2 = c.in_ok-numbers.ensures.edits.looks.was_honest h3 in
+    let h1 = c.in_ok-made.ensures.edits.looks.was_honest h2 in
     let laid : LaidTunes c.args.layout s mid held rows c.args.change.now gone come = laid_tunes c.args.layout s one mid held c.in_ok-made.made
-    c.args.change.now gone come (c.in_ok-texts.ensures.stand.same h1) (c.in_ok-made.ensures.lays h2)
+    c.args.change.now gone come (c.in_ok-texts.ensures.reads.stand.same h1) (c.in_ok-made.ensures.lays h2)
     c.in_ok-made.ensures.rows c.in-Ok.ensures.entries in
     let texts = c.in_ok-texts.ensures.runs h1 in
     indexed_laid c.args.layout s mid late new was.numbers c.change_numbers.new.numbers was.searches c.change_searches.new.searches held rows
@@ -98,15 +98,15 @@ returns-in_err-numbers-clause-takes g c = λ h tunes sets holds can.
     let rows = rows_after c.in_ok-made.made held in
     let gone = c.in-Ok.entries.gone.items in
     let come = c.in-Ok.entries.come.items in
-    let h2 = c.in_err-numbers.ensures.looks.was_honest h in
-    let h1 = c.in_ok-made.ensures.looks.was_honest h2 in
+    let h2 = c.in_err-numbers.ensures.edits.looks.was_honest h in
+    let h1 = c.in_ok-made.ensures.edits.looks.was_honest h2 in
     let laid : LaidTunes c.args.layout s mid held rows c.args.change.now gone come = laid_tunes c.args.layout s one mid held c.in_ok-made.made
-    c.args.change.now gone come (c.in_ok-texts.ensures.stand.same h1) (c.in_ok-made.ensures.lays h2)
+    c.args.change.now gone come (c.in_ok-texts.ensures.reads.stand.same h1) (c.in_ok-made.ensures.lays h2)
     c.in_ok-made.ensures.rows c.in-Ok.ensures.entries in
     let full = numbers_take c.args.layout s mid late late was.numbers was.numbers was.searches was.searches held rows c.args.change.now gone come
     c.in_ok-texts.texts.gone c.in_ok-texts.texts.come laid tunes holds.set_lists sets holds.within can holds.around {T = ℕ} (Err c.in_err-numbers.field-0.0)
     (c.in_err-numbers.ensures.takes h) in
-    let used : free_pages one.used ≡ free_pages s.used = ap free_pages c.in_ok-texts.ensures.stand.used in
+    let used : free_pages one.used ≡ free_pages s.used = ap free_pages c.in_ok-texts.ensures.reads.stand.used in
     let first = c.in_ok-made.ensures.takes h2 in
     rw (p.1, p.2) (λ e. (let lt = full e in omega (arith, lt, used, first))))
 
@@ -123,11 +123,11 @@ returns-in_err-searches-clause-takes g c = λ h tunes sets holds can.
     let rows = rows_after c.in_ok-made.made held in
     let gone = c.in-Ok.entries.gone.items in
     let come = c.in-Ok.entries.come.items in
-    let h3 = c.in_err-searches.ensures.looks.was_honest h in
-    let h2 = c.in_ok-numbers.ensures.looks.was_honest h3 in
-    let h1 = c.in_ok-made.ensures.looks.was_honest h2 in
+    let h3 = c.in_err-searches.ensures.edits.looks.was_honest h in
+    let h2 = c.in_ok-numbers.ensures.edits.looks.was_honest h3 in
+    let h1 = c.in_ok-made.ensures.edits.looks.was_honest h2 in
     let laid : LaidTunes c.args.layout s mid held rows c.args.change.now gone come = laid_tunes c.args.layout s one mid held c.in_ok-made.made
-    c.args.change.now gone come (c.in_ok-texts.ensures.stand.same h1) (c.in_ok-made.ensures.lays h2)
+    c.args.change.now gone come (c.in_ok-texts.ensures.reads.stand.same h1) (c.in_ok-made.ensures.lays h2)
     c.in_ok-made.ensures.rows c.in-Ok.ensures.entries in
     let texts = c.in_ok-texts.ensures.runs h1 in
     let second = numbers_take c.args.layout s mid late new was.numbers c.change_numbers.new.numbers was.searches was.searches held rows
@@ -136,7 +136,7 @@ returns-in_err-searches-clause-takes g c = λ h tunes sets holds can.
     let full = searches_take c.args.layout s mid late new was.numbers c.change_numbers.new.numbers was.searches was.searches held rows
     c.args.change.now gone come c.in_ok-texts.texts.gone c.in_ok-texts.texts.come laid tunes holds.set_lists sets holds.within can holds.around
     (c.in_ok-numbers.ensures.lays h3) texts {T = ℕ} (Err c.in_err-searches.field-0.0) (c.in_err-searches.ensures.takes h) in
-    let used : free_pages one.used ≡ free_pages s.used = ap free_pages c.in_ok-texts.ensures.stand.used in
+    let used : free_pages one.used ≡ free_pages s.used = ap free_pages c.in_ok-texts.ensures.reads.stand.used in
     let first = c.in_ok-made.ensures.takes h2 in
     rw (p.1, p.2) (λ e. (let lt = full e in omega (arith, lt, used, first, second))))
 
@@ -152,11 +152,11 @@ returns-clause-takes g c = λ h tunes sets holds can.
     let rows = rows_after c.in_ok-made.made held in
     let gone = c.in-Ok.entries.gone.items in
     let come = c.in-Ok.entries.come.items in
-    let h3 = c.in_ok-searches.ensures.looks.was_honest h in
-    let h2 = c.in_ok-numbers.ensures.looks.was_honest h3 in
-    let h1 = c.in_ok-made.ensures.looks.was_honest h2 in
+    let h3 = c.in_ok-searches.ensures.edits.looks.was_honest h in
+    let h2 = c.in_ok-numbers.ensures.edits.looks.was_honest h3 in
+    let h1 = c.in_ok-made.ensures.edits.looks.was_honest h2 in
     let laid : LaidTunes c.args.layout s mid held rows c.args.change.now gone come = laid_tunes c.args.layout s one mid held c.in_ok-made.made
-    c.args.change.now gone come (c.in_ok-texts.ensures.stand.same h1) (c.in_ok-made.ensures.lays h2)
+    c.args.change.now gone come (c.in_ok-texts.ensures.reads.stand.same h1) (c.in_ok-made.ensures.lays h2)
     c.in_ok-made.ensures.rows c.in-Ok.ensures.entries in
     let texts = c.in_ok-texts.ensures.runs h1 in
     let second = numbers_take c.args.layout s mid late new was.numbers c.change_numbers.new.numbers was.searches was.searches held rows
@@ -165,6 +165,6 @@ returns-clause-takes g c = λ h tunes sets holds can.
     let third = searches_take c.args.layout s mid late new was.numbers c.change_numbers.new.numbers was.searches was.searches held rows
     c.args.change.now gone come c.in_ok-texts.texts.gone c.in_ok-texts.texts.come laid tunes holds.set_lists sets holds.within can holds.around
     (c.in_ok-numbers.ensures.lays h3) texts {T = ℕ} (Ok 0) (c.in_ok-searches.ensures.takes h) in
-    let used : free_pages one.used ≡ free_pages s.used = ap free_pages c.in_ok-texts.ensures.stand.used in
+    let used : free_pages one.used ≡ free_pages s.used = ap free_pages c.in_ok-texts.ensures.reads.stand.used in
     let first = c.in_ok-made.ensures.takes h2 in
     omega (arith, third, used, first, second))

@@ -11,19 +11,19 @@ put_runs-requires-clause-notes g c = subst (λ notes. IsByNotes notes c.args.run
 pub put_runs-requires-clause-holds : goal.put_runs-requires-clause-holds
 put_runs-requires-clause-holds g c = λ h1.
     some_left (stand c.args.pages.now c.args.work.now) (stand c.take_runs.new.pages c.take_runs.new.work) c.args.searches.now c.take_runs.new.searches
-    c.args.runs.now.gone (c.in-Ok.ensures.lays h1) (c.requires.holds (c.in-Ok.ensures.looks.was_honest h1))
+    c.args.runs.now.gone (c.in-Ok.ensures.lays h1) (c.requires.holds (c.in-Ok.ensures.edits.looks.was_honest h1))
 
 pub store-requires-clause-holds : goal.store-requires-clause-holds
 store-requires-clause-holds g c = λ h2.
-    (let h1 = c.in-Ok-put_runs.ensures.looks.was_honest h2 in
+    (let h1 = c.in-Ok-put_runs.ensures.edits.looks.was_honest h2 in
     some_laid (stand c.args.pages.now c.args.work.now) (stand c.take_runs.new.pages c.take_runs.new.work) c.args.searches.now c.take_runs.new.searches
     c.args.runs.now.gone (c.in-Ok.ensures.lays h1) (stand c.put_runs.new.pages c.put_runs.new.work) c.put_runs.new.searches c.args.runs.now.come
-    (c.in-Ok-put_runs.ensures.lays h2) (c.requires.holds (c.in-Ok.ensures.looks.was_honest h1)) c.requires.come)
+    (c.in-Ok-put_runs.ensures.lays h2) (c.requires.holds (c.in-Ok.ensures.edits.looks.was_honest h1)) c.requires.come)
 
 pub returns-in-Ok-store-clause-lays : goal.returns-in-Ok-store-clause-lays
 returns-in-Ok-store-clause-lays g c = λ h3 before after parts tunes others more small out puts h.
-    (let h2 = c.in-Ok-store.ensures.looks.was_honest h3 in
-    let h1 = c.in-Ok-put_runs.ensures.looks.was_honest h2 in
+    (let h2 = c.in-Ok-store.ensures.edits.looks.was_honest h3 in
+    let h1 = c.in-Ok-put_runs.ensures.edits.looks.was_honest h2 in
     let laid =
     texts_laid (stand c.args.pages.now c.args.work.now) (stand c.take_runs.new.pages c.take_runs.new.work) c.args.searches.now c.take_runs.new.searches
     c.args.runs.now.gone (c.in-Ok.ensures.lays h1) (stand c.put_runs.new.pages c.put_runs.new.work) c.put_runs.new.searches c.args.runs.now.come
@@ -35,8 +35,8 @@ returns-in-Ok-store-clause-takes g c = λ h3 before after parts tunes others mor
     (let s0 = stand c.args.pages.now c.args.work.now in
     let s1 = stand c.take_runs.new.pages c.take_runs.new.work in
     let s2 = stand c.put_runs.new.pages c.put_runs.new.work in
-    let h2 = c.in-Ok-store.ensures.looks.was_honest h3 in
-    let h1 = c.in-Ok-put_runs.ensures.looks.was_honest h2 in
+    let h2 = c.in-Ok-store.ensures.edits.looks.was_honest h3 in
+    let h1 = c.in-Ok-put_runs.ensures.edits.looks.was_honest h2 in
     let laid =
     texts_laid s0 s1 c.args.searches.now c.take_runs.new.searches c.args.runs.now.gone (c.in-Ok.ensures.lays h1) s2 c.put_runs.new.searches
     c.args.runs.now.come (c.in-Ok-put_runs.ensures.lays h2) before after parts tunes others more small out puts h in
@@ -49,8 +49,8 @@ returns-in-Err-store-clause-takes g c = λ h3 before after parts tunes others mo
     (let s0 = stand c.args.pages.now c.args.work.now in
     let s1 = stand c.take_runs.new.pages c.take_runs.new.work in
     let s2 = stand c.put_runs.new.pages c.put_runs.new.work in
-    let h2 = c.in-Err-store.ensures.looks.was_honest h3 in
-    let h1 = c.in-Ok-put_runs.ensures.looks.was_honest h2 in
+    let h2 = c.in-Err-store.ensures.edits.looks.was_honest h3 in
+    let h1 = c.in-Ok-put_runs.ensures.edits.looks.was_honest h2 in
     let laid =
     texts_laid s0 s1 c.args.searches.now c.take_runs.new.searches c.args.runs.now.gone (c.in-Ok.ensures.lays h1) s2 c.put_runs.new.searches
     c.args.runs.now.come (c.in-Ok-put_runs.ensures.lays h2) before after parts tunes others more small out puts h in
@@ -60,9 +60,9 @@ returns-in-Err-store-clause-takes g c = λ h3 before after parts tunes others mo
 
 pub returns-in-Err-put_runs-clause-takes : goal.returns-in-Err-put_runs-clause-takes
 returns-in-Err-put_runs-clause-takes g c = λ h2 before after parts tunes others more small out puts h is.
-    (let h1 = c.in-Err-put_runs.ensures.looks.was_honest h2 in
+    (let h1 = c.in-Err-put_runs.ensures.edits.looks.was_honest h2 in
     let left = c.in-Ok.ensures.lays h1 before after parts tunes others small out h in
-    let full = full_edit c.in-Err-put_runs.fault c.put_runs.new.pages.closed is c.in-Err-put_runs.ensures.answer in
+    let full = full_edit c.in-Err-put_runs.fault c.put_runs.new.pages.closed is c.in-Err-put_runs.ensures.edits.answer in
     full_for_come (stand c.args.pages.now c.args.work.now) (stand c.take_runs.new.pages c.take_runs.new.work) c.args.searches.now c.take_runs.new.searches
     (length (others ++ more)) c.in-Ok.ensures.balance
     (full h2 before after left.0 others more (others_small c.args.runs.now.gone tunes others small out) puts left.1))

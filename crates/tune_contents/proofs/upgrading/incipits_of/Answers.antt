@@ -1,4 +1,4 @@
-use Rattle.std.proofs.Common.{◌≡◌, ℕ, ◌<◌, List, arith, length, ◌++◌, ◌∷◌, [], get_or, sym, subst, ◌∙◌}
+use Rattle.std.proofs.Common.{rules, ◌≡◌, ℕ, ◌<◌, List, arith, length, ◌++◌, ◌∷◌, [], get_or, sym, subst, ◌∙◌}
 use Rattle.std.proofs.lemmas.List.{get_or_default}
 use Rattle.tune_pages.specs.Kept.{HonestAt}
 use Rattle.tune_pages.specs.Stand.{Stand}
@@ -40,11 +40,11 @@ loop-place-preserved g c =
     not_refused c.add.result _ (sym c.is_err.ensures.value ∙ c.if-is_err.false) c.add.ensures) in
     record {
       looked = looked_more g.D.Disk.honest g.D.Disk.failures g.D.Disk.state text c.args.pages.now c.loop-place.pages c.read_tune_where.new.pages
-          inv.looked call.looks;
-      fits = call.fits;
+          inv.looked call.reads.looks;
+      fits = call.reads.fits;
       gathers = gathers_more (HonestAt g.D.Disk.honest c.loop-place.pages.disk) (HonestAt g.D.Disk.honest c.read_tune_where.new.pages.disk) c.args.layout
           (stand c.args.pages.now c.args.work.now) (stand c.loop-place.pages c.args.work.now) rows at c.loop-place.run c.add.new.self text
-          call.looks.was_honest same.same within inv.gathers read added;
+          call.reads.looks.was_honest same.same within inv.gathers read added;
     }
 
 pub returns-clause-some : goal.returns-clause-some
@@ -62,5 +62,10 @@ returns-clause-run g c =
     c.loop-place.place c.loop-place.run c.in_order.result (omega (arith, c.loop-place-test.false))
     c.requires.rows c.loop-place.invariant.gathers c.in_order.ensures
 
-pub returns-clause-stand : goal.returns-clause-stand
-returns-clause-stand g c = stand_kept g.D.Disk.honest c.args.pages.now c.loop-place.pages c.args.work.now c.loop-place.invariant.looked.same
+pub returns-clause-reads : goal.returns-clause-reads
+returns-clause-reads g c = record {
+  looks = search rules;
+  answer = search rules;
+  fits = search rules;
+  stand = stand_kept g.D.Disk.honest c.args.pages.now c.loop-place.pages c.args.work.now c.loop-place.invariant.looked.same;
+}

@@ -1,4 +1,4 @@
-use Rattle.std.proofs.Common.{ℕ, Ok, Err, refl, subst, arith}
+use Rattle.std.proofs.Common.{rules, ℕ, Ok, Err, refl, subst, arith}
 use Rattle.std.proofs.lemmas.Result.{err_from_is_err_and}
 use Rattle.tune_pages.specs.Stand.{Stand}
 use Rattle.tune_pages.specs.Work.{stand}
@@ -21,27 +21,30 @@ lengthen-requires-clause-holds g c = λ h.
     let run = c.in_ok-incipits.ensures in
     let are = run.run h in
     some_incipits s (stand c.incipits_of.new.pages c.args.work.now) c.args.contents.now c.in_ok-searches.searches c.in_ok-incipits.incipits c.requires.layout
-    (run.stand.same h) c.in_ok-searches.ensures.searches are (c.requires.holds (run.looks.was_honest h)))
+    (run.reads.stand.same h) c.in_ok-searches.ensures.searches are (c.requires.holds (run.reads.looks.was_honest h)))
 
 pub returns-in_err-lengthen-clause-takes : goal.returns-in_err-lengthen-clause-takes
 returns-in_err-lengthen-clause-takes g c = λ h state holds is.
     (let p = err_from_is_err_and c.from_residual-in_err-lengthen.result c.from_residual-in_err-lengthen.ensures.1 in
     let s = stand c.args.pages.now c.args.work.now in
     let run = c.in_ok-incipits.ensures in
-    let back = c.in_err-lengthen.ensures.looks.was_honest h in
+    let back = c.in_err-lengthen.ensures.edits.looks.was_honest h in
     let are = run.run back in
     let takes = upgrade_takes {T = ℕ} (Err c.in_err-lengthen.field-0.0) s (stand c.incipits_of.new.pages c.args.work.now)
     (stand c.lengthen.new.pages c.lengthen.new.work) c.args.contents.now c.in_ok-searches.searches c.in_ok-incipits.incipits c.requires.layout
-    (run.stand.same back) c.in_ok-searches.ensures.searches are (c.in_err-lengthen.ensures.takes h) state holds is in
+    (run.reads.stand.same back) c.in_ok-searches.ensures.searches are (c.in_err-lengthen.ensures.takes h) state holds is in
     rw (p.1, p.2) takes)
 
-pub returns-in_err-lay_root-clause-looks : goal.returns-in_err-lay_root-clause-looks
-returns-in_err-lay_root-clause-looks g c =
+pub returns-in_err-lay_root-clause-edits : goal.returns-in_err-lay_root-clause-edits
+returns-in_err-lay_root-clause-edits g c =
     let p = err_from_is_err_and c.from_residual-in_err-lay_root.result c.from_residual-in_err-lay_root.ensures.1 in
     let two = look_next g.D.Disk.honest g.D.Disk.failures g.D.Disk.state _ _ c.args.pages.now c.incipits_of.new.pages c.lengthen.new.pages
-    c.in_ok-incipits.ensures.looks c.in_ok-lengthen.ensures.looks in
-    rw (p.1, p.2) (look_fails g.D.Disk.honest g.D.Disk.failures g.D.Disk.state _ _ c.args.pages.now c.lengthen.new.pages c.lay_root.new.pages two
-    c.in_err-lay_root.ensures.looks)
+    c.in_ok-incipits.ensures.reads.looks c.in_ok-lengthen.ensures.edits.looks in record {
+      looks = rw (p.1, p.2) (look_fails g.D.Disk.honest g.D.Disk.failures g.D.Disk.state _ _ c.args.pages.now c.lengthen.new.pages c.lay_root.new.pages two
+          c.in_err-lay_root.ensures.edits.looks);
+      answer = search rules;
+      fits = search rules;
+    }
 
 pub returns-in_err-lay_root-clause-takes : goal.returns-in_err-lay_root-clause-takes
 returns-in_err-lay_root-clause-takes g c = λ h state holds is.
@@ -57,8 +60,8 @@ returns-clause-lays g c = λ h.
     let old = c.args.contents.now in
     let run = c.in_ok-incipits.ensures in
     let longer = c.in_ok-lengthen.ensures in
-    let h2 = c.in_ok-lay_root.ensures.looks.was_honest h in
-    let h1 = longer.looks.was_honest h2 in
+    let h2 = c.in_ok-lay_root.ensures.edits.looks.was_honest h in
+    let h1 = longer.edits.looks.was_honest h2 in
     let are = run.run h1 in
     let left : Memory = record {
       layout = Two;
@@ -68,7 +71,7 @@ returns-clause-lays g c = λ h.
       sets = c.in-Ok.sets;
       firsts = record { numbers = old.firsts.numbers; searches = c.in_ok-lengthen.field-0; sets = old.firsts.sets };
     } in
-    let lengthens = subst (λ (t : Stand). LengthensTexts t mid c.in_ok-searches.searches left.searches c.in_ok-incipits.incipits) (run.stand.same h1)
+    let lengthens = subst (λ (t : Stand). LengthensTexts t mid c.in_ok-searches.searches left.searches c.in_ok-incipits.incipits) (run.reads.stand.same h1)
     (longer.lays h2) in
     let kept : IsUpgraded old left = record {
       layout = refl;
@@ -89,11 +92,11 @@ returns-clause-takes g c = λ h state holds is.
     (let s = stand c.args.pages.now c.args.work.now in
     let run = c.in_ok-incipits.ensures in
     let longer = c.in_ok-lengthen.ensures in
-    let h2 = c.in_ok-lay_root.ensures.looks.was_honest h in
-    let h1 = longer.looks.was_honest h2 in
+    let h2 = c.in_ok-lay_root.ensures.edits.looks.was_honest h in
+    let h1 = longer.edits.looks.was_honest h2 in
     let are = run.run h1 in
     let first = upgrade_takes {T = ℕ} (Ok 0) s (stand c.incipits_of.new.pages c.args.work.now) (stand c.lengthen.new.pages c.lengthen.new.work)
-    c.args.contents.now c.in_ok-searches.searches c.in_ok-incipits.incipits c.requires.layout (run.stand.same h1) c.in_ok-searches.ensures.searches are
+    c.args.contents.now c.in_ok-searches.searches c.in_ok-incipits.incipits c.requires.layout (run.reads.stand.same h1) c.in_ok-searches.ensures.searches are
     (longer.takes h2) state holds is in
     let second = c.in_ok-lay_root.ensures.takes h in
     omega (arith, first, second))

@@ -21,14 +21,11 @@ add_page_values-requires g c =
       (
         c.index.invariant.0,
         (
-          c.requires.open,
+          c.requires.work,
           (
-            c.requires.fits,
-            (
-              (λ h. subst (λ (x : ℕ). InUse s x) (sym e) (page_in_use s ps c.args.place (each_of s ps (c.requires.pages h)) c.requires.place)),
-              (λ h. subst (λ (x : ℕ). IsLeaf g.row.W (image_at s x)) (sym e) (form_at g.row.W s c.args.index.now.pages c.args.place (c.requires.index h).form
-                  c.requires.place)),
-            ),
+            (λ h. subst (λ (x : ℕ). InUse s x) (sym e) (page_in_use s ps c.args.place (each_of s ps (c.requires.pages h)) c.requires.place)),
+            (λ h. subst (λ (x : ℕ). IsLeaf g.row.W (image_at s x)) (sym e) (form_at g.row.W s c.args.index.now.pages c.args.place (c.requires.index h).form
+                c.requires.place)),
           ),
         ),
       ),
@@ -43,7 +40,7 @@ returns-in-Ok-clause-values g c = λ h.
     let v : c.index.inside.pages.items ≡ ps = ap (λ (x : Shape). x.pages) c.index.view_is in
     let e : c.index-page.result.now ≡ slice_index ps i =
     read_page c.index.inside.pages.items ps i c.index-page.result.now v c.requires.place c.index-page.ensures in
-    let is = c.requires.index (c.in-Ok.ensures.looks.was_honest h) in
+    let is = c.requires.index (c.in-Ok.ensures.reads.looks.was_honest h) in
     let up : IsRising (leaf_in W (image_at s (slice_index ps i))) = leaf_rises_at W s ps i c.requires.place is.rising in
     let fit : AllFit W (leaf_in W (image_at s (slice_index ps i))) = leaf_fits_at W s ps i c.requires.place is.fit in
     let back = λ (x : ℕ). leaf_in W (image_at s x) in

@@ -1,9 +1,8 @@
-use Rattle.std.proofs.Common.{ℕ, ◌-◌, ◌<◌, length, refl, sym, ◌∙◌, ap, arith, subst}
+use Rattle.std.proofs.Common.{ℕ, ◌-◌, ◌<◌, length, sym, ◌∙◌, ap, arith, subst}
 use Rattle.std.proofs.lemmas.List.Edits.{length-remove}
 use Rattle.tune_pages.specs.Stand.{IsUsed}
 use Rattle.tune_pages.specs.Work.{stand}
-use Rattle.tune_pages.proofs.Frames.{trades_none, trades_then}
-use Rattle.tune_index.proofs.Changes.{list_none, list_then}
+use Rattle.tune_index.proofs.Changes.{shape_none, shape_then}
 use Rattle.tune_index.proofs.EachPage.{each_of}
 use Rattle.tune_index.proofs.Ranges.{page_in_use}
 use Rattle.tune_index.proofs.clearing.drop_leaves.Goals.{then-page-eq0-via-then-page-eq0, then-page-eq0-via-else-page-eq0+then-not-in_use}
@@ -13,11 +12,8 @@ pub loop-rest-init : goal.loop-rest-init
 loop-rest-init g c = record {
   count = sym c.leaf_count-rest.ensures.count;
   heads = sym c.leaf_count-rest.ensures.heads;
-  fits = c.requires.fits;
-  list = list_none c.args.index.now;
-  balance = refl;
-  pages = λ has. has;
-  trades = λ has. trades_none c.args.index.now.pages (stand c.args.pages.now c.args.work.now);
+  fits = c.requires.work.fits;
+  shape = shape_none c.args.index.now (stand c.args.pages.now c.args.work.now) (λ has. has);
 }
 
 pub loop-rest-preserved : goal.loop-rest-preserved
@@ -38,11 +34,8 @@ loop-rest-preserved g c =
     record {
       count = omega (arith, pages, page_less, i.count, more);
       heads = omega (arith, heads, head_less, i.heads, more);
-      fits = e.fits;
-      list = list_then c.args.index.now was is i.list e.list;
-      balance = i.balance ∙ e.balance;
-      pages = λ has. e.pages (i.pages has);
-      trades = λ has. trades_then c.args.index.now.pages was.pages is.pages C0 C1 C2 (i.trades has) (e.trades (i.pages has));
+      fits = e.work.fits;
+      shape = shape_then c.args.index.now was is C0 C1 C2 (λ has. has) i.shape.pages i.shape e.shape;
     }
 
 pub returns-then-page-eq0-clause-all : goal.returns-then-page-eq0-clause-all
@@ -53,7 +46,7 @@ returns-then-page-eq0-clause-all g c = λ has.
     let pages = c.loop-rest.index.pages in
     let place = c.loop-rest.rest - 1 in
     let e = c.leaf_page-page.ensures.page in
-    let its = page_in_use all pages place (each_of all pages (i.pages has)) (omega (arith, i.count, more)) in
+    let its = page_in_use all pages place (each_of all pages (i.shape.pages has)) (omega (arith, i.count, more)) in
     let used : IsUsed all.used c.leaf_page-page.result = subst (λ (x : ℕ). IsUsed all.used x) (sym e) its.flag in
     elim c.then-page-eq0.branch [
       | then-page-eq0-via-then-page-eq0 w ↦ absurd (its.not_root (sym e ∙ w.if-page-eq0.true))

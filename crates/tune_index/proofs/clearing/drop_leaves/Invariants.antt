@@ -1,7 +1,6 @@
 use Rattle.std.proofs.Common.{◌≡◌, length}
-use Rattle.tune_pages.specs.Frame.{TradesPages}
 use Rattle.tune_pages.specs.Work.{stand, Fits}
-use Rattle.tune_index.specs.Indexes.{HasPages, KeepsBalance, KeepsList}
+use Rattle.tune_index.specs.Indexes.{HasPages, Reshapes}
 use Rattle.tune_index.proofs.clearing.drop_leaves.Given as goal
 
 abbrev pub invariant-loop-rest : goal.invariant-loop-rest
@@ -9,11 +8,7 @@ invariant-loop-rest g l = record {
   count : length l.index.pages ≡ l.rest;
   heads : length l.index.heads ≡ l.rest;
   fits : Fits l.pages l.work;
-  list : KeepsList l.fn.index l.index;
-  balance : KeepsBalance (stand l.pages l.fn.work) (stand l.pages l.work) l.fn.index.pages l.index.pages;
-  pages : HasPages (stand l.pages l.fn.work) l.fn.index.pages → HasPages (stand l.pages l.work) l.index.pages;
-  trades : HasPages (stand l.pages l.fn.work) l.fn.index.pages
-      → TradesPages l.fn.index.pages l.index.pages (stand l.pages l.fn.work) (stand l.pages l.work);
+  shape : Reshapes (HasPages (stand l.pages l.fn.work) l.fn.index.pages) (stand l.pages l.fn.work) (stand l.pages l.work) l.fn.index l.index;
 }
 
 abbrev pub decreases-loop-rest : goal.decreases-loop-rest

@@ -20,28 +20,30 @@ use Rattle.tune_index.proofs.edit.add_leaf.Goals as goal
 first_is : (leaf : List Entry) (e : Entry) → 1 ≤ length leaf → e ≡ get_or leaf 0 e → e ≡ slice_entry leaf 0
 first_is leaf e l is = is ∙ get_or_default leaf 0 e (0, 0) (omega arith)
 
-pub returns-in-Ok-list_leaf-clause-pages : goal.returns-in-Ok-list_leaf-clause-pages
-returns-in-Ok-list_leaf-clause-pages g c = λ has.
+pub returns-in-Ok-list_leaf-clause-shape : goal.returns-in-Ok-list_leaf-clause-shape
+returns-in-Ok-list_leaf-clause-shape g c =
     let old = stand c.args.pages.now c.args.work.now in
     let mid = stand c.args.pages.now c.allocate.new.work in
     let new = stand c.args.pages.now c.write_page_leaf.new.work in
+    let was = c.args.index.now.pages in
+    let is = c.list_leaf.new.index.pages in
+    let place = c.args.place in
     let page = c.in-Ok.page in
     let got = c.in-Ok.ensures in
+    let puts = c.in-Ok-write_page_leaf.ensures.puts in
+    let listed = c.in-Ok-list_leaf.ensures.pages in
     let al : Allocates old mid page = allocates_by old mid page most_pages got.least got.within got.stand in
-    all_of new c.list_leaf.new.index.pages
-    (add_pages old mid new c.args.index.now.pages c.list_leaf.new.index.pages c.args.place page (image_at new page) (each_of old c.args.index.now.pages has) al
-    c.in-Ok-write_page_leaf.ensures.puts c.in-Ok-list_leaf.ensures.pages)
-
-pub returns-in-Ok-list_leaf-clause-trades : goal.returns-in-Ok-list_leaf-clause-trades
-returns-in-Ok-list_leaf-clause-trades g c = λ has.
-    let old = stand c.args.pages.now c.args.work.now in
-    let mid = stand c.args.pages.now c.allocate.new.work in
-    let new = stand c.args.pages.now c.write_page_leaf.new.work in
-    let page = c.in-Ok.page in
-    let got = c.in-Ok.ensures in
-    let al : Allocates old mid page = allocates_by old mid page most_pages got.least got.within got.stand in
-    add_trades old mid new c.args.index.now.pages c.list_leaf.new.index.pages c.args.place page (image_at new page) (each_of old c.args.index.now.pages has) al
-    c.in-Ok-write_page_leaf.ensures.puts c.in-Ok-list_leaf.ensures.pages
+    let less = taken_less old.used page got.least.free in
+    let same : free_pages new.used ≡ free_pages (set old.used page true) =
+    ap free_pages c.in-Ok-write_page_leaf.ensures.used ∙ ap (λ (s : Stand). free_pages s.used) got.stand in
+    let more : length is ≡ length (insert was place page) = ap length listed in
+    let count = length-insert was place page c.requires.place in
+    record {
+      list = c.in-Ok-list_leaf.ensures.list;
+      pages = λ has. all_of new is (add_pages old mid new was is place page (image_at new page) (each_of old was has) al puts listed);
+      trades = λ has. add_trades old mid new was is place page (image_at new page) (each_of old was has) al puts listed;
+      balance = omega (arith, less, same, more, count);
+    }
 
 pub returns-in-Ok-list_leaf-clause-leaves : goal.returns-in-Ok-list_leaf-clause-leaves
 returns-in-Ok-list_leaf-clause-leaves g c = λ has leaves h.
@@ -76,19 +78,8 @@ returns-in-Ok-list_leaf-clause-kept g c = λ q used.
     let al : Allocates old mid page = allocates_by old mid page most_pages got.least got.within got.stand in
     kept_by_add old mid new page (image_at new page) q al c.in-Ok-write_page_leaf.ensures.puts used
 
-pub returns-in-Ok-list_leaf-clause-balance : goal.returns-in-Ok-list_leaf-clause-balance
-returns-in-Ok-list_leaf-clause-balance g c =
-    let old = stand c.args.pages.now c.args.work.now in
-    let new = stand c.args.pages.now c.write_page_leaf.new.work in
-    let got = c.in-Ok.ensures in
-    let page = c.in-Ok.page in
-    let less = taken_less old.used page got.least.free in
-    let same : free_pages new.used ≡ free_pages (set old.used page true) =
-    ap free_pages c.in-Ok-write_page_leaf.ensures.used ∙ ap (λ (s : Stand). free_pages s.used) got.stand in
-    let more : length c.list_leaf.new.index.pages ≡ length (insert c.args.index.now.pages c.args.place page) = ap length c.in-Ok-list_leaf.ensures.pages in
-    let count = length-insert c.args.index.now.pages c.args.place page c.requires.place in
-    omega (arith, less, same, more, count)
-
-pub returns-in-Err-clause-answer : goal.returns-in-Err-clause-answer
-returns-in-Err-clause-answer g c =
-    work_change c.in-Err.fault c.requires.open (λ full. full_none (stand c.args.pages.now c.args.work.now).used full) c.in-Err.ensures.answer
+pub returns-in-Err-clause-work : goal.returns-in-Err-clause-work
+returns-in-Err-clause-work g c = record {
+  fits = tt;
+  answer = work_change c.in-Err.fault c.requires.work.is_open (λ full. full_none (stand c.args.pages.now c.args.work.now).used full) c.in-Err.ensures.answer;
+}

@@ -24,23 +24,28 @@ free-requires-clause-root g c =
     let ne : c.leaf_page-page.result ≢ 0 = λ z. u.not_root (sym c.leaf_page-page.ensures.page ∙ z) in
     omega (arith, ne)
 
-pub returns-in-Ok-unlist_leaf-clause-pages : goal.returns-in-Ok-unlist_leaf-clause-pages
-returns-in-Ok-unlist_leaf-clause-pages g c = λ has.
+pub returns-in-Ok-unlist_leaf-clause-shape : goal.returns-in-Ok-unlist_leaf-clause-shape
+returns-in-Ok-unlist_leaf-clause-shape g c =
     let old = stand c.args.pages.now c.args.work.now in
     let new = stand c.args.pages.now c.free.new.work in
-    let f : Frees old new (slice_index c.args.index.now.pages c.args.place) =
-    subst (λ (x : ℕ). Frees old new x) c.leaf_page-page.ensures.page (frees_by old new c.leaf_page-page.result c.in-Ok.ensures.stand) in
-    all_of new c.unlist_leaf.new.index.pages
-    (drop_pages old new c.args.index.now.pages c.unlist_leaf.new.index.pages c.args.place (each_of old c.args.index.now.pages has) c.requires.place f
-    c.in-Ok-unlist_leaf.ensures.pages)
-
-pub returns-in-Ok-unlist_leaf-clause-trades : goal.returns-in-Ok-unlist_leaf-clause-trades
-returns-in-Ok-unlist_leaf-clause-trades g c = λ has.
-    let old = stand c.args.pages.now c.args.work.now in
-    let new = stand c.args.pages.now c.free.new.work in
-    let f : Frees old new (slice_index c.args.index.now.pages c.args.place) =
-    subst (λ (x : ℕ). Frees old new x) c.leaf_page-page.ensures.page (frees_by old new c.leaf_page-page.result c.in-Ok.ensures.stand) in
-    drop_trades old new c.args.index.now.pages c.unlist_leaf.new.index.pages c.args.place c.requires.place f c.in-Ok-unlist_leaf.ensures.pages
+    let was = c.args.index.now.pages in
+    let is = c.unlist_leaf.new.index.pages in
+    let place = c.args.place in
+    let page = c.leaf_page-page.result in
+    let gone = c.in-Ok-unlist_leaf.ensures.pages in
+    let f : Frees old new (slice_index was place) =
+    subst (λ (x : ℕ). Frees old new x) c.leaf_page-page.ensures.page (frees_by old new page c.in-Ok.ensures.stand) in
+    let used : IsUsed old.used page = subst (λ (x : ℕ). IsUsed old.used x) (sym c.leaf_page-page.ensures.page) c.requires.in_use.flag in
+    let more = freed_more (page ∷ []) old.used (used, tt) in
+    let same : free_pages new.used ≡ free_pages (set old.used page false) = ap (λ (s : Stand). free_pages s.used) c.in-Ok.ensures.stand in
+    let fewer : length is ≡ length (remove was place) = ap length gone in
+    let count = length-remove was place c.requires.place in
+    record {
+      list = c.in-Ok-unlist_leaf.ensures.list;
+      pages = λ has. all_of new is (drop_pages old new was is place (each_of old was has) c.requires.place f gone);
+      trades = λ has. drop_trades old new was is place c.requires.place f gone;
+      balance = omega (arith, more, same, fewer, count);
+    }
 
 pub returns-in-Ok-unlist_leaf-clause-leaves : goal.returns-in-Ok-unlist_leaf-clause-leaves
 returns-in-Ok-unlist_leaf-clause-leaves g c = λ has leaves h.
@@ -51,15 +56,3 @@ returns-in-Ok-unlist_leaf-clause-leaves g c = λ has leaves h.
     leaves_dropped g.row.W old new c.args.index.now c.unlist_leaf.new.index leaves c.args.place (each_of old c.args.index.now.pages has) c.requires.place f
     c.in-Ok-unlist_leaf.ensures.pages
     c.in-Ok-unlist_leaf.ensures.heads h
-
-pub returns-in-Ok-unlist_leaf-clause-balance : goal.returns-in-Ok-unlist_leaf-clause-balance
-returns-in-Ok-unlist_leaf-clause-balance g c =
-    let old = stand c.args.pages.now c.args.work.now in
-    let page = c.leaf_page-page.result in
-    let used : IsUsed old.used page = subst (λ (x : ℕ). IsUsed old.used x) (sym c.leaf_page-page.ensures.page) c.requires.in_use.flag in
-    let more = freed_more (page ∷ []) old.used (used, tt) in
-    let same : free_pages (stand c.args.pages.now c.free.new.work).used ≡ free_pages (set old.used page false) =
-    ap (λ (s : Stand). free_pages s.used) c.in-Ok.ensures.stand in
-    let gone : length c.unlist_leaf.new.index.pages ≡ length (remove c.args.index.now.pages c.args.place) = ap length c.in-Ok-unlist_leaf.ensures.pages in
-    let count = length-remove c.args.index.now.pages c.args.place c.requires.place in
-    omega (arith, more, same, gone, count)

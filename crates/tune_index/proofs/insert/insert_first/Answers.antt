@@ -2,20 +2,19 @@ use Rattle.std.proofs.Common.{◌≡◌, ◌≤◌, ◌<◌, ◌++◌, ℕ, List
 use Rattle.std.specs.List.{insert}
 use Rattle.tune_pages.specs.Stand.{Stand}
 use Rattle.tune_pages.specs.Work.{stand}
-use Rattle.tune_pages.proofs.Frames.{trades_none, trades_then}
 use Rattle.index_keys.specs.Entries.{Entry}
 use Rattle.tune_index.specs.Indexes.{HasPages}
 use Rattle.tune_index.specs.Inside.LeafLists.{joined_leaves, leaves_of}
 use Rattle.tune_index.proofs.Answering.{change_more}
-use Rattle.tune_index.proofs.Changes.{list_then}
+use Rattle.tune_index.proofs.Changes.{shape_none, shape_then}
 use Rattle.tune_index.proofs.EachPage.{each_of}
 use Rattle.tune_index.proofs.LeafLists.{leaves_of_index}
 use Rattle.tune_index.proofs.Ranges.{page_in_use}
 use Rattle.tune_index.proofs.Runs.{first_leaves, none_at_all}
 use Rattle.tune_index.proofs.insert.insert_first.Goals as goal
 
-pub returns-then-leaves-gt0-clause-trades : goal.returns-then-leaves-gt0-clause-trades
-returns-then-leaves-gt0-clause-trades g c = λ has. trades_none c.args.index.now.pages (stand c.args.pages.now c.args.work.now)
+pub returns-then-leaves-gt0-clause-shape : goal.returns-then-leaves-gt0-clause-shape
+returns-then-leaves-gt0-clause-shape g c = shape_none c.args.index.now (stand c.args.pages.now c.args.work.now) (λ has. has)
 
 -- there is no leaf
 none_has : (s : Stand) (ps : List ℕ) → length ps ≤ 0 → HasPages s ps
@@ -33,42 +32,28 @@ spread-requires g c =
     let s0 = stand c.args.pages.now c.args.work.now in
     let s1 = stand c.args.pages.now c.add_leaf.new.work in
     let none : length c.args.index.now.pages ≤ 0 = omega (arith, c.leaf_count-leaves.ensures.count, c.if-leaves-gt0.false) in
-    let has = c.in-Ok.ensures.pages (none_has s0 c.args.index.now.pages none) in
+    let has = c.in-Ok.ensures.shape.pages (none_has s0 c.args.index.now.pages none) in
     let place : 0 < length c.add_leaf.new.index.pages = omega (arith, c.in-Ok.ensures.count) in (
       search rules,
       (
         search rules,
         (
-          c.requires.open,
+          record { is_open = c.requires.work.is_open; fits = c.in-Ok.ensures.work.fits },
           (
-            c.in-Ok.ensures.fits,
+            place,
             (
-              place,
-              (
-                page_in_use s1 c.add_leaf.new.index.pages 0 (each_of s1 c.add_leaf.new.index.pages has) place,
-                c.requires.some,
-              ),
+              page_in_use s1 c.add_leaf.new.index.pages 0 (each_of s1 c.add_leaf.new.index.pages has) place,
+              c.requires.some,
             ),
           ),
         ),
       ),
     )
 
-pub returns-in-Ok-spread-clause-list : goal.returns-in-Ok-spread-clause-list
-returns-in-Ok-spread-clause-list g c =
-    list_then c.args.index.now c.add_leaf.new.index c.spread.new.index c.in-Ok.ensures.list c.in-Ok-spread.ensures.list
-
-pub returns-in-Ok-spread-clause-pages : goal.returns-in-Ok-spread-clause-pages
-returns-in-Ok-spread-clause-pages g c = λ has. c.in-Ok-spread.ensures.pages (c.in-Ok.ensures.pages has)
-
-pub returns-in-Ok-spread-clause-trades : goal.returns-in-Ok-spread-clause-trades
-returns-in-Ok-spread-clause-trades g c = λ has.
-    trades_then c.args.index.now.pages c.add_leaf.new.index.pages c.spread.new.index.pages (stand c.args.pages.now c.args.work.now)
-    (stand c.args.pages.now c.add_leaf.new.work) (stand c.args.pages.now c.spread.new.work) (c.in-Ok.ensures.trades has)
-    (c.in-Ok-spread.ensures.trades (c.in-Ok.ensures.pages has))
-
-pub returns-in-Ok-spread-clause-balance : goal.returns-in-Ok-spread-clause-balance
-returns-in-Ok-spread-clause-balance g c = c.in-Ok.ensures.balance ∙ c.in-Ok-spread.ensures.balance
+pub returns-in-Ok-spread-clause-shape : goal.returns-in-Ok-spread-clause-shape
+returns-in-Ok-spread-clause-shape g c =
+    shape_then c.args.index.now c.add_leaf.new.index c.spread.new.index (stand c.args.pages.now c.args.work.now) (stand c.args.pages.now c.add_leaf.new.work)
+    (stand c.args.pages.now c.spread.new.work) (λ has. has) c.in-Ok.ensures.shape.pages c.in-Ok.ensures.shape c.in-Ok-spread.ensures.shape
 
 pub returns-in-Ok-spread-clause-entries : goal.returns-in-Ok-spread-clause-entries
 returns-in-Ok-spread-clause-entries g c = λ ix.
@@ -77,16 +62,24 @@ returns-in-Ok-spread-clause-entries g c = λ ix.
     let none : length was.pages ≤ 0 = omega (arith, c.leaf_count-leaves.ensures.count, c.if-leaves-gt0.false) in
     let has0 = none_has s0 was.pages none in
     let one = c.in-Ok.ensures.leaves has0 (leaves_of g.row.W s0 was.pages) (leaves_of_index g.row.W s0 was ix) in
-    let all = c.in-Ok-spread.ensures.leaves (c.in-Ok.ensures.pages has0) _ one in
+    let all = c.in-Ok-spread.ensures.leaves (c.in-Ok.ensures.shape.pages has0) _ one in
     first_leaves g.row.W s0 (stand c.args.pages.now c.spread.new.work) was c.spread.new.index c.args.run.now all.0 c.requires.rising c.check_run.ensures none
     all.1 (only_leaf s0 g.row.W was.pages (take 1 c.args.run.now) c.args.run.now (joined_leaves all.0) none all.2)
 
-pub returns-in-Err-clause-answer : goal.returns-in-Err-clause-answer
-returns-in-Err-clause-answer g c =
+pub returns-in-Err-clause-work : goal.returns-in-Err-clause-work
+returns-in-Err-clause-work g c =
     let none : length c.args.index.now.pages ≡ 0 = omega (arith, c.leaf_count-leaves.ensures.count, c.if-leaves-gt0.false) in
-    change_more c.in-Err.fault (λ full. (none, omega (arith, full, c.requires.some))) c.in-Err.ensures.answer
+    record {
+      fits = tt;
+      answer = change_more c.in-Err.fault (λ full. (none, omega (arith, full, c.requires.some))) c.in-Err.ensures.work.answer;
+    }
 
-pub returns-in-Err-spread-clause-answer : goal.returns-in-Err-spread-clause-answer
-returns-in-Err-spread-clause-answer g c =
+pub returns-in-Err-spread-clause-work : goal.returns-in-Err-spread-clause-work
+returns-in-Err-spread-clause-work g c =
     let none : length c.args.index.now.pages ≡ 0 = omega (arith, c.leaf_count-leaves.ensures.count, c.if-leaves-gt0.false) in
-    change_more c.in-Err-spread.fault (λ full. (none, omega (arith, full, none, c.in-Ok.ensures.balance, c.in-Ok.ensures.count))) c.in-Err-spread.ensures.answer
+    let more = c.in-Ok.ensures.shape.balance in
+    record {
+      fits = tt;
+      answer = change_more c.in-Err-spread.fault (λ full. (none, omega (arith, full, none, more, c.in-Ok.ensures.count)))
+          c.in-Err-spread.ensures.work.answer;
+    }

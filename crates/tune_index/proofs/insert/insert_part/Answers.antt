@@ -36,9 +36,9 @@ returns-in-Ok-insert_in_leaf-clause-leaves g c = λ honest leaves h up.
     let call = c.in-Ok.ensures in
     let read = read_leaf_at g.row.W s0 c.args.index.now leaves c.args.place c.leaf_page-page.result c.read_page_leaf.new.image.bytes c.requires.place
     c.leaf_page-page.ensures.page (call.leaf honest) h in
-    let has = subst (λ (x : Stand). HasPages x pages) (sym (call.stand.same honest)) (c.requires.pages (call.looks.was_honest honest)) in
+    let has = subst (λ (x : Stand). HasPages x pages) (sym (call.reads.stand.same honest)) (c.requires.pages (call.reads.looks.was_honest honest)) in
     let h1 : HasLeaves g.row.W s1 c.args.index.now leaves =
-    subst (λ (x : Stand). HasLeaves g.row.W x c.args.index.now leaves) (sym (call.stand.same honest)) h in
+    subst (λ (x : Stand). HasLeaves g.row.W x c.args.index.now leaves) (sym (call.reads.stand.same honest)) h in
     let d = c.in-Ok-insert_in_leaf.ensures.leaves has (subst (λ (x : List Entry). IsRising x) (sym read) up) leaves h1 in (
       d.0,
       d.1,
@@ -46,16 +46,20 @@ returns-in-Ok-insert_in_leaf-clause-leaves g c = λ honest leaves h up.
           ++ (inserted_all c.args.part.now x ++ joined_leaves (drop (c.args.place + 1) leaves))) read,
     )
 
-pub returns-in-Err-insert_in_leaf-clause-answer : goal.returns-in-Err-insert_in_leaf-clause-answer
-returns-in-Err-insert_in_leaf-clause-answer g c =
+pub returns-in-Err-insert_in_leaf-clause-edits : goal.returns-in-Err-insert_in_leaf-clause-edits
+returns-in-Err-insert_in_leaf-clause-edits g c =
     let s0 = stand c.args.pages.now c.args.work.now in
     let call = c.in-Ok.ensures in
     let still : c.read_page_leaf.new.pages.closed ≡ false = search rules in
-    change_edit c.in-Err-insert_in_leaf.fault still
-    (λ full honest leaves h up.
-    let read = read_leaf_at g.row.W s0 c.args.index.now leaves c.args.place c.leaf_page-page.result c.read_page_leaf.new.image.bytes c.requires.place
-    c.leaf_page-page.ensures.page (call.leaf honest) h in
-    let more = full (subst (λ (x : List Entry). IsRising x) (sym read) up) in
-    let size = ap (λ (x : List Entry). length (inserted_all c.args.part.now x)) read in
-    let free = ap free_pages call.stand.used in
-    omega (arith, more, size, free)) c.in-Err-insert_in_leaf.ensures.answer
+    record {
+      looks = search rules;
+      answer = change_edit c.in-Err-insert_in_leaf.fault still
+          (λ full honest leaves h up.
+          let read = read_leaf_at g.row.W s0 c.args.index.now leaves c.args.place c.leaf_page-page.result c.read_page_leaf.new.image.bytes c.requires.place
+          c.leaf_page-page.ensures.page (call.leaf honest) h in
+          let more = full (subst (λ (x : List Entry). IsRising x) (sym read) up) in
+          let size = ap (λ (x : List Entry). length (inserted_all c.args.part.now x)) read in
+          let free = ap free_pages call.reads.stand.used in
+          omega (arith, more, size, free)) c.in-Err-insert_in_leaf.ensures.work.answer;
+      fits = tt;
+    }

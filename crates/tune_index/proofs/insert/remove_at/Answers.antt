@@ -38,9 +38,10 @@ returns-in-Ok-set_image-clause-leaves g c = λ honest leaves h up.
     let read = read_leaf_at g.row.W s0 c.args.index.now leaves c.args.place c.leaf_page-page.result c.read_page_leaf.new.image.bytes c.requires.place
     c.leaf_page-page.ensures.page (call.leaf honest) h in
     let rises = subst (λ (x : List Entry). IsRising x) (sym read) up in
-    let has = subst (λ (x : Stand). HasPages x c.args.index.now.pages) (sym (call.stand.same honest)) (c.requires.pages (call.looks.was_honest honest)) in
+    let has = subst (λ (x : Stand). HasPages x c.args.index.now.pages) (sym (call.reads.stand.same honest))
+    (c.requires.pages (call.reads.looks.was_honest honest)) in
     let h1 : HasLeaves g.row.W s1 c.args.index.now leaves =
-    subst (λ (x : Stand). HasLeaves g.row.W x c.args.index.now leaves) (sym (call.stand.same honest)) h in
+    subst (λ (x : Stand). HasLeaves g.row.W x c.args.index.now leaves) (sym (call.reads.stand.same honest)) h in
     let leaf = leaf_in g.row.W c.remove_in_image.new.image.bytes in
     let made = c.remove_in_image.ensures.entries c.if-remove_in_image.true rises ∙ ap (removed e) read in
     let n = length-leaves g.row.W s0 c.args.index.now leaves h in (
@@ -59,9 +60,10 @@ returns-in-Ok-drop_leaf-clause-leaves g c = λ honest leaves h up.
     let read = read_leaf_at g.row.W s0 c.args.index.now leaves c.args.place c.leaf_page-page.result c.read_page_leaf.new.image.bytes c.requires.place
     c.leaf_page-page.ensures.page (call.leaf honest) h in
     let rises = subst (λ (x : List Entry). IsRising x) (sym read) up in
-    let has = subst (λ (x : Stand). HasPages x c.args.index.now.pages) (sym (call.stand.same honest)) (c.requires.pages (call.looks.was_honest honest)) in
+    let has = subst (λ (x : Stand). HasPages x c.args.index.now.pages) (sym (call.reads.stand.same honest))
+    (c.requires.pages (call.reads.looks.was_honest honest)) in
     let h1 : HasLeaves g.row.W s1 c.args.index.now leaves =
-    subst (λ (x : Stand). HasLeaves g.row.W x c.args.index.now leaves) (sym (call.stand.same honest)) h in
+    subst (λ (x : Stand). HasLeaves g.row.W x c.args.index.now leaves) (sym (call.reads.stand.same honest)) h in
     let none = sym (ap (removed e) read) ∙ c.remove_in_image.ensures.none c.if-remove_in_image.false rises in (
       remove leaves c.args.place,
       c.in-Ok-drop_leaf.ensures.leaves has leaves h1,

@@ -30,14 +30,11 @@ put_run-requires-2 g c =
       (
         search rules,
         (
-          e1.answer,
+          record { is_open = e1.edits.answer; fits = e1.edits.fits },
           (
-            e1.fits,
-            (
-              (λ h1. rhythms_next was is1 is1 is1 f1 f1 f1 s0 s1 (e1.lays h1)
-                  (subst (λ (shape : SearchShape). HoldsSomeFour s0 shape) (sym c.indexes.view_is) (c.requires.holds (e1.looks.was_honest h1)))),
-              search rules,
-            ),
+            (λ h1. rhythms_next was is1 is1 is1 f1 f1 f1 s0 s1 (e1.lays h1)
+                (subst (λ (shape : SearchShape). HoldsSomeFour s0 shape) (sym c.indexes.view_is) (c.requires.holds (e1.edits.looks.was_honest h1)))),
+            search rules,
           ),
         ),
       ),
@@ -65,14 +62,11 @@ put_run-requires-3 g c =
       (
         search rules,
         (
-          e2.answer,
+          record { is_open = e2.edits.answer; fits = e2.edits.fits },
           (
-            e2.fits,
-            (
-              (λ h2. (let h1 = e2.looks.was_honest h2 in scales_next was is1 is2 is2 f1 f2 f2 s0 s1 s2 (e1.lays h1) (e2.lays h2)
-                  (subst (λ (shape : SearchShape). HoldsSomeFour s0 shape) (sym c.indexes.view_is) (c.requires.holds (e1.looks.was_honest h1))))),
-              search rules,
-            ),
+            (λ h2. (let h1 = e2.edits.looks.was_honest h2 in scales_next was is1 is2 is2 f1 f2 f2 s0 s1 s2 (e1.lays h1) (e2.lays h2)
+                (subst (λ (shape : SearchShape). HoldsSomeFour s0 shape) (sym c.indexes.view_is) (c.requires.holds (e1.edits.looks.was_honest h1))))),
+            search rules,
           ),
         ),
       ),
@@ -102,12 +96,11 @@ put-requires g c =
     let f3 = λ (es : List Entry). inserted_all c.deref-3.result.now es in
     let same = ap (λ (r : SearchRuns). r.notes) c.runs.view_is ∙ c.requires.notes
     ∙ sym (ap (λ (shape : SearchShape). shape.notes) c.indexes.view_is) in record {
-      «open» = e3.answer;
-      fits = e3.fits;
+      work = record { is_open = e3.edits.answer; fits = e3.edits.fits };
       notes = same;
-      index = λ h3. (let h2 = e3.looks.was_honest h3 in let h1 = e2.looks.was_honest h2 in
+      index = λ h3. (let h2 = e3.edits.looks.was_honest h3 in let h1 = e2.edits.looks.was_honest h2 in
           incipits_next was is1 is2 is3 f1 f2 f3 s0 s1 s2 s3 (e1.lays h1) (e2.lays h2) (e3.lays h3)
-          (subst (λ (shape : SearchShape). HoldsSomeFour s0 shape) (sym c.indexes.view_is) (c.requires.holds (e1.looks.was_honest h1))));
+          (subst (λ (shape : SearchShape). HoldsSomeFour s0 shape) (sym c.indexes.view_is) (c.requires.holds (e1.edits.looks.was_honest h1))));
       rising = subst (λ (r : SearchRuns). IsRising r.incipits) (sym c.runs.view_is) c.requires.incipits;
     }
 
@@ -137,9 +130,9 @@ returns-clause-lays g c = λ h4.
     let e4 = c.in-Ok-put.ensures in
     let is4 = c.put.new.self in
     let f4 = λ (es : List Entry). inserted_all (entries_of_incipits c.runs.inside.incipits) es in
-    let h3 = e4.looks.was_honest h4 in
-    let h2 = e3.looks.was_honest h3 in
-    let h1 = e2.looks.was_honest h2 in
+    let h3 = e4.edits.looks.was_honest h4 in
+    let h2 = e3.edits.looks.was_honest h3 in
+    let h1 = e2.edits.looks.was_honest h2 in
     let is : SearchShape = record { notes = notes_of_index is4; titles = is1; rhythms = is2; scales = is3; incipits = shape_of is4 } in
     let made : SearchRuns = record {
       notes = notes_of_entries c.runs.inside.incipits;
@@ -184,8 +177,8 @@ returns-clause-balance g c =
     (four_balance s0 s1 s2 s3 s4 was is c.in-Ok.ensures.balance c.in-Ok-put_run.ensures.balance c.in-Ok-put_run-2.ensures.balance
     c.in-Ok-put.ensures.balance)
 
-pub returns-in-Err-clause-answer : goal.returns-in-Err-clause-answer
-returns-in-Err-clause-answer g c =
+pub returns-in-Err-clause-edits : goal.returns-in-Err-clause-edits
+returns-in-Err-clause-edits g c =
     let s0 = stand c.args.pages.now c.args.work.now in
     let was : SearchShape = record {
       notes = notes_of_index c.indexes.inside.incipits;
@@ -198,18 +191,22 @@ returns-in-Err-clause-answer g c =
     let r1 : c.deref.result.now ≡ all.titles = c.deref.ensures.value ∙ ap (λ (r : SearchRuns). r.titles) c.runs.view_is in
     let made : SearchRuns = record { notes = all.notes; titles = c.deref.result.now; rhythms = all.rhythms; scales = all.scales; incipits = all.incipits } in
     let runs : made ≡ all = (λ i. record { notes = all.notes; titles = r1 i; rhythms = all.rhythms; scales = all.scales; incipits = all.incipits }) in
-    edit_more c.in-Err.fault c.put_run.new.pages.closed
-    (λ full h1.
-    subst (λ (shape : SearchShape). AreFullFor s0 shape (λ entries. runs_put_in all entries)) c.indexes.view_is
-    (subst (λ (r : SearchRuns). AreFullFor s0 was (λ entries. runs_put_in r entries)) runs
-    (titles_full was was.titles was.titles was.titles
-    (inserted_all made.titles) (inserted_all made.rhythms) (inserted_all made.scales) (inserted_all made.incipits)
-    (front_least 0 made.rhythms) (front_least 0 made.scales) (front_least 0 made.incipits)
-    s0 (full h1))))
-    c.in-Err.ensures.answer
+    record {
+      looks = search rules;
+      answer = edit_more c.in-Err.fault c.put_run.new.pages.closed
+          (λ full h1.
+          subst (λ (shape : SearchShape). AreFullFor s0 shape (λ entries. runs_put_in all entries)) c.indexes.view_is
+          (subst (λ (r : SearchRuns). AreFullFor s0 was (λ entries. runs_put_in r entries)) runs
+          (titles_full was was.titles was.titles was.titles
+          (inserted_all made.titles) (inserted_all made.rhythms) (inserted_all made.scales) (inserted_all made.incipits)
+          (front_least 0 made.rhythms) (front_least 0 made.scales) (front_least 0 made.incipits)
+          s0 (full h1))))
+          c.in-Err.ensures.edits.answer;
+      fits = tt;
+    }
 
-pub returns-in-Err-put_run-clause-answer : goal.returns-in-Err-put_run-clause-answer
-returns-in-Err-put_run-clause-answer g c =
+pub returns-in-Err-put_run-clause-edits : goal.returns-in-Err-put_run-clause-edits
+returns-in-Err-put_run-clause-edits g c =
     let s0 = stand c.args.pages.now c.args.work.now in
     let was : SearchShape = record {
       notes = notes_of_index c.indexes.inside.incipits;
@@ -232,19 +229,23 @@ returns-in-Err-put_run-clause-answer g c =
       incipits = all.incipits;
     } in
     let runs : made ≡ all = (λ i. record { notes = all.notes; titles = r1 i; rhythms = r2 i; scales = all.scales; incipits = all.incipits }) in
-    edit_more c.in-Err-put_run.fault c.put_run-2.new.pages.closed
-    (λ full h2.
-    let h1 = c.in-Err-put_run.ensures.looks.was_honest h2 in
-    subst (λ (shape : SearchShape). AreFullFor s0 shape (λ entries. runs_put_in all entries)) c.indexes.view_is
-    (subst (λ (r : SearchRuns). AreFullFor s0 was (λ entries. runs_put_in r entries)) runs
-    (rhythms_full was is1 is1 is1
-    (inserted_all made.titles) (inserted_all made.rhythms) (inserted_all made.scales) (inserted_all made.incipits)
-    (front_least 0 made.rhythms) (front_least 0 made.scales) (front_least 0 made.incipits)
-    s0 s1 (e1.lays h1) e1.balance (full h2))))
-    c.in-Err-put_run.ensures.answer
+    record {
+      looks = search rules;
+      answer = edit_more c.in-Err-put_run.fault c.put_run-2.new.pages.closed
+          (λ full h2.
+          let h1 = c.in-Err-put_run.ensures.edits.looks.was_honest h2 in
+          subst (λ (shape : SearchShape). AreFullFor s0 shape (λ entries. runs_put_in all entries)) c.indexes.view_is
+          (subst (λ (r : SearchRuns). AreFullFor s0 was (λ entries. runs_put_in r entries)) runs
+          (rhythms_full was is1 is1 is1
+          (inserted_all made.titles) (inserted_all made.rhythms) (inserted_all made.scales) (inserted_all made.incipits)
+          (front_least 0 made.rhythms) (front_least 0 made.scales) (front_least 0 made.incipits)
+          s0 s1 (e1.lays h1) e1.balance (full h2))))
+          c.in-Err-put_run.ensures.edits.answer;
+      fits = tt;
+    }
 
-pub returns-in-Err-put_run-2-clause-answer : goal.returns-in-Err-put_run-2-clause-answer
-returns-in-Err-put_run-2-clause-answer g c =
+pub returns-in-Err-put_run-2-clause-edits : goal.returns-in-Err-put_run-2-clause-edits
+returns-in-Err-put_run-2-clause-edits g c =
     let s0 = stand c.args.pages.now c.args.work.now in
     let was : SearchShape = record {
       notes = notes_of_index c.indexes.inside.incipits;
@@ -271,20 +272,24 @@ returns-in-Err-put_run-2-clause-answer g c =
       incipits = all.incipits;
     } in
     let runs : made ≡ all = (λ i. record { notes = all.notes; titles = r1 i; rhythms = r2 i; scales = r3 i; incipits = all.incipits }) in
-    edit_more c.in-Err-put_run-2.fault c.put_run-3.new.pages.closed
-    (λ full h3.
-    let h2 = c.in-Err-put_run-2.ensures.looks.was_honest h3 in
-    let h1 = e2.looks.was_honest h2 in
-    subst (λ (shape : SearchShape). AreFullFor s0 shape (λ entries. runs_put_in all entries)) c.indexes.view_is
-    (subst (λ (r : SearchRuns). AreFullFor s0 was (λ entries. runs_put_in r entries)) runs
-    (scales_full was is1 is2 is2
-    (inserted_all made.titles) (inserted_all made.rhythms) (inserted_all made.scales) (inserted_all made.incipits)
-    (front_least 0 made.rhythms) (front_least 0 made.scales) (front_least 0 made.incipits)
-    s0 s1 s2 (e1.lays h1) (e2.lays h2) e1.balance e2.balance (full h3))))
-    c.in-Err-put_run-2.ensures.answer
+    record {
+      looks = search rules;
+      answer = edit_more c.in-Err-put_run-2.fault c.put_run-3.new.pages.closed
+          (λ full h3.
+          let h2 = c.in-Err-put_run-2.ensures.edits.looks.was_honest h3 in
+          let h1 = e2.edits.looks.was_honest h2 in
+          subst (λ (shape : SearchShape). AreFullFor s0 shape (λ entries. runs_put_in all entries)) c.indexes.view_is
+          (subst (λ (r : SearchRuns). AreFullFor s0 was (λ entries. runs_put_in r entries)) runs
+          (scales_full was is1 is2 is2
+          (inserted_all made.titles) (inserted_all made.rhythms) (inserted_all made.scales) (inserted_all made.incipits)
+          (front_least 0 made.rhythms) (front_least 0 made.scales) (front_least 0 made.incipits)
+          s0 s1 s2 (e1.lays h1) (e2.lays h2) e1.balance e2.balance (full h3))))
+          c.in-Err-put_run-2.ensures.edits.answer;
+      fits = tt;
+    }
 
-pub returns-in-Err-put-clause-answer : goal.returns-in-Err-put-clause-answer
-returns-in-Err-put-clause-answer g c =
+pub returns-in-Err-put-clause-edits : goal.returns-in-Err-put-clause-edits
+returns-in-Err-put-clause-edits g c =
     let s0 = stand c.args.pages.now c.args.work.now in
     let was : SearchShape = record {
       notes = notes_of_index c.indexes.inside.incipits;
@@ -316,15 +321,19 @@ returns-in-Err-put-clause-answer g c =
       incipits = entries_of_incipits c.runs.inside.incipits;
     } in
     let runs : made ≡ all = (λ i. record { notes = r0 i; titles = r1 i; rhythms = r2 i; scales = r3 i; incipits = r4 i }) in
-    edit_more c.in-Err-put.fault c.put.new.pages.closed
-    (λ full h4.
-    let h3 = c.in-Err-put.ensures.looks.was_honest h4 in
-    let h2 = e3.looks.was_honest h3 in
-    let h1 = e2.looks.was_honest h2 in
-    subst (λ (shape : SearchShape). AreFullFor s0 shape (λ entries. runs_put_in all entries)) c.indexes.view_is
-    (subst (λ (r : SearchRuns). AreFullFor s0 was (λ entries. runs_put_in r entries)) runs
-    (incipits_full was is1 is2 is3
-    (inserted_all made.titles) (inserted_all made.rhythms) (inserted_all made.scales) (inserted_all made.incipits)
-    (front_least 0 made.rhythms) (front_least 0 made.scales) (front_least 0 made.incipits)
-    s0 s1 s2 s3 (e1.lays h1) (e2.lays h2) (e3.lays h3) e1.balance e2.balance e3.balance (full h4))))
-    c.in-Err-put.ensures.answer
+    record {
+      looks = search rules;
+      answer = edit_more c.in-Err-put.fault c.put.new.pages.closed
+          (λ full h4.
+          let h3 = c.in-Err-put.ensures.edits.looks.was_honest h4 in
+          let h2 = e3.edits.looks.was_honest h3 in
+          let h1 = e2.edits.looks.was_honest h2 in
+          subst (λ (shape : SearchShape). AreFullFor s0 shape (λ entries. runs_put_in all entries)) c.indexes.view_is
+          (subst (λ (r : SearchRuns). AreFullFor s0 was (λ entries. runs_put_in r entries)) runs
+          (incipits_full was is1 is2 is3
+          (inserted_all made.titles) (inserted_all made.rhythms) (inserted_all made.scales) (inserted_all made.incipits)
+          (front_least 0 made.rhythms) (front_least 0 made.scales) (front_least 0 made.incipits)
+          s0 s1 s2 s3 (e1.lays h1) (e2.lays h2) (e3.lays h3) e1.balance e2.balance e3.balance (full h4))))
+          c.in-Err-put.ensures.edits.answer;
+      fits = tt;
+    }

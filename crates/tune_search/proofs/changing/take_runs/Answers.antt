@@ -28,12 +28,9 @@ take_run-requires-2 g c =
       (
         search rules,
         (
-          e1.answer,
-          (
-            e1.fits,
-            (λ h1. rhythms_next was is1 is1 is1 f1 f1 f1 s0 s1 (e1.lays h1)
-                (subst (λ (shape : SearchShape). HoldsSomeFour s0 shape) (sym c.indexes.view_is) (c.requires.holds (e1.looks.was_honest h1)))),
-          ),
+          record { is_open = e1.edits.answer; fits = e1.edits.fits },
+          (λ h1. rhythms_next was is1 is1 is1 f1 f1 f1 s0 s1 (e1.lays h1)
+              (subst (λ (shape : SearchShape). HoldsSomeFour s0 shape) (sym c.indexes.view_is) (c.requires.holds (e1.edits.looks.was_honest h1)))),
         ),
       ),
     )
@@ -60,12 +57,9 @@ take_run-requires-3 g c =
       (
         search rules,
         (
-          e2.answer,
-          (
-            e2.fits,
-            (λ h2. (let h1 = e2.looks.was_honest h2 in scales_next was is1 is2 is2 f1 f2 f2 s0 s1 s2 (e1.lays h1) (e2.lays h2)
-                (subst (λ (shape : SearchShape). HoldsSomeFour s0 shape) (sym c.indexes.view_is) (c.requires.holds (e1.looks.was_honest h1))))),
-          ),
+          record { is_open = e2.edits.answer; fits = e2.edits.fits },
+          (λ h2. (let h1 = e2.edits.looks.was_honest h2 in scales_next was is1 is2 is2 f1 f2 f2 s0 s1 s2 (e1.lays h1) (e2.lays h2)
+              (subst (λ (shape : SearchShape). HoldsSomeFour s0 shape) (sym c.indexes.view_is) (c.requires.holds (e1.edits.looks.was_honest h1))))),
         ),
       ),
     )
@@ -94,12 +88,11 @@ take-requires g c =
     let f3 = λ (es : List Entry). removed_all c.deref-3.result.now es in
     let same = ap (λ (r : SearchRuns). r.notes) c.runs.view_is ∙ c.requires.notes
     ∙ sym (ap (λ (shape : SearchShape). shape.notes) c.indexes.view_is) in record {
-      «open» = e3.answer;
-      fits = e3.fits;
+      work = record { is_open = e3.edits.answer; fits = e3.edits.fits };
       notes = same;
-      index = λ h3. (let h2 = e3.looks.was_honest h3 in let h1 = e2.looks.was_honest h2 in
+      index = λ h3. (let h2 = e3.edits.looks.was_honest h3 in let h1 = e2.edits.looks.was_honest h2 in
           incipits_next was is1 is2 is3 f1 f2 f3 s0 s1 s2 s3 (e1.lays h1) (e2.lays h2) (e3.lays h3)
-          (subst (λ (shape : SearchShape). HoldsSomeFour s0 shape) (sym c.indexes.view_is) (c.requires.holds (e1.looks.was_honest h1))));
+          (subst (λ (shape : SearchShape). HoldsSomeFour s0 shape) (sym c.indexes.view_is) (c.requires.holds (e1.edits.looks.was_honest h1))));
     }
 
 pub returns-clause-lays : goal.returns-clause-lays
@@ -128,9 +121,9 @@ returns-clause-lays g c = λ h4.
     let e4 = c.in-Ok-take.ensures in
     let is4 = c.take.new.self in
     let f4 = λ (es : List Entry). removed_all (entries_of_incipits c.runs.inside.incipits) es in
-    let h3 = e4.looks.was_honest h4 in
-    let h2 = e3.looks.was_honest h3 in
-    let h1 = e2.looks.was_honest h2 in
+    let h3 = e4.edits.looks.was_honest h4 in
+    let h2 = e3.edits.looks.was_honest h3 in
+    let h1 = e2.edits.looks.was_honest h2 in
     let is : SearchShape = record { notes = notes_of_index is4; titles = is1; rhythms = is2; scales = is3; incipits = shape_of is4 } in
     let made : SearchRuns = record {
       notes = notes_of_entries c.runs.inside.incipits;

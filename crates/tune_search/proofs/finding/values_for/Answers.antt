@@ -17,13 +17,10 @@ candidates-requires g c =
       (
         omega arith,
         (
-          c.requires.open,
+          c.requires.work,
           (
-            c.requires.fits,
-            (
-              (λ h. let some = c.requires.holds h in among_pages key_bytes s shape some.0 some.1 some.2 some.3 some.4),
-              (λ h. let some = c.requires.holds h in among_index key_bytes s shape some.0 some.1 some.2 some.3 some.4),
-            ),
+            (λ h. let some = c.requires.holds h in among_pages key_bytes s shape some.0 some.1 some.2 some.3 some.4),
+            (λ h. let some = c.requires.holds h in among_index key_bytes s shape some.0 some.1 some.2 some.3 some.4),
           ),
         ),
       ),

@@ -13,13 +13,10 @@ insert_all-requires g c =
       (
         search rules,
         (
-          c.requires.open,
+          c.requires.work,
           (
-            c.requires.fits,
-            (
-              (λ h. some_pages g.row.W s0 c.args.index.now (c.requires.index h)),
-              ((λ h. some_index g.row.W s0 c.args.index.now (c.requires.index h)), c.requires.rising),
-            ),
+            (λ h. some_pages g.row.W s0 c.args.index.now (c.requires.index h)),
+            ((λ h. some_index g.row.W s0 c.args.index.now (c.requires.index h)), c.requires.rising),
           ),
         ),
       ),
@@ -33,16 +30,20 @@ returns-in-Ok-clause-lays g c = λ honest before after parts entries h.
     let run : List Entry = c.args.run.now in
     let there = index_among g.row.W s0 c.args.index.now before after parts entries h in
     let done = e.entries honest in
-    laid g.row.W s0 s1 c.args.index.now c.insert_all.new.self before after parts entries (inserted_all run entries) h e.list (e.pages honest)
-    (e.trades honest) done.0 (done.1 ∙ ap (inserted_all run) there.2)
-    (worked g.D.Disk.honest c.args.pages.now c.insert_all.new.pages c.args.work.now c.insert_all.new.work c.requires.fits e.fits e.looks.same)
+    laid g.row.W s0 s1 c.args.index.now c.insert_all.new.self before after parts entries (inserted_all run entries) h e.shape.list (e.shape.pages honest)
+    (e.shape.trades honest) done.0 (done.1 ∙ ap (inserted_all run) there.2)
+    (worked g.D.Disk.honest c.args.pages.now c.insert_all.new.pages c.args.work.now c.insert_all.new.work c.requires.work.fits e.edits.fits e.edits.looks.same)
 
-pub returns-in-Err-clause-answer : goal.returns-in-Err-clause-answer
-returns-in-Err-clause-answer g c =
+pub returns-in-Err-clause-edits : goal.returns-in-Err-clause-edits
+returns-in-Err-clause-edits g c =
     let s0 = stand c.args.pages.now c.args.work.now in
     let run : List Entry = c.args.run.now in
-    edit_more c.in-Err.fault c.insert_all.new.pages.closed
-    (λ full honest before after parts entries h.
-    let there = index_among g.row.W s0 c.args.index.now before after parts entries h in
-    subst (λ (es : List Entry). free_pages s0.used + length c.args.index.now.pages < length (inserted_all run es)) there.2 (full honest))
-    c.in-Err.ensures.answer
+    record {
+      looks = search rules;
+      answer = edit_more c.in-Err.fault c.insert_all.new.pages.closed
+          (λ full honest before after parts entries h.
+          let there = index_among g.row.W s0 c.args.index.now before after parts entries h in
+          subst (λ (es : List Entry). free_pages s0.used + length c.args.index.now.pages < length (inserted_all run es)) there.2 (full honest))
+          c.in-Err.ensures.edits.answer;
+      fits = tt;
+    }

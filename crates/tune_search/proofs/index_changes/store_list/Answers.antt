@@ -9,8 +9,8 @@ store-requires g c =
     let s0 = stand c.args.pages.now c.args.work.now in (
       search rules,
       (
-        c.requires.open,
-        (c.requires.fits, (λ h. some_list g.row.W s0 c.args.index.now (c.requires.index h))),
+        c.requires.work,
+        (λ h. some_list g.row.W s0 c.args.index.now (c.requires.index h)),
       ),
     )
 
@@ -22,4 +22,4 @@ returns-in-Ok-clause-lays g c = λ honest before after parts entries h.
     let was = c.args.index.now in
     let stores = subst (λ (first : ℕ). StoresList s0 s1 was.first first was.pages) (sym e.list.0) (e.stores honest) in
     listed g.row.W s0 s1 was c.store.new.self before after parts entries h stores e.leaves.0 e.leaves.1
-    (worked g.D.Disk.honest c.args.pages.now c.store.new.pages c.args.work.now c.store.new.work c.requires.fits e.fits e.looks.same)
+    (worked g.D.Disk.honest c.args.pages.now c.store.new.pages c.args.work.now c.store.new.work c.requires.work.fits e.edits.fits e.edits.looks.same)

@@ -11,11 +11,8 @@ remove-requires g c =
       (
         search rules,
         (
-          c.requires.open,
-          (
-            c.requires.fits,
-            ((λ h. some_pages g.row.W s0 c.args.index.now (c.requires.index h)), (λ h. some_index g.row.W s0 c.args.index.now (c.requires.index h))),
-          ),
+          c.requires.work,
+          ((λ h. some_pages g.row.W s0 c.args.index.now (c.requires.index h)), (λ h. some_index g.row.W s0 c.args.index.now (c.requires.index h))),
         ),
       ),
     )
@@ -28,6 +25,6 @@ returns-in-Ok-clause-lays g c = λ honest before after parts entries h.
     let gone : Entry = (c.args.key.now, c.args.value) in
     let there = index_among g.row.W s0 c.args.index.now before after parts entries h in
     let done = e.entries honest in
-    laid g.row.W s0 s1 c.args.index.now c.remove.new.self before after parts entries (removed gone entries) h e.list (e.pages honest)
-    (e.trades honest) done.0 (done.1 ∙ ap (λ (es : List Entry). removed gone es) there.2)
-    (worked g.D.Disk.honest c.args.pages.now c.remove.new.pages c.args.work.now c.remove.new.work c.requires.fits e.fits e.looks.same)
+    laid g.row.W s0 s1 c.args.index.now c.remove.new.self before after parts entries (removed gone entries) h e.shape.list (e.shape.pages honest)
+    (e.shape.trades honest) done.0 (done.1 ∙ ap (λ (es : List Entry). removed gone es) there.2)
+    (worked g.D.Disk.honest c.args.pages.now c.remove.new.pages c.args.work.now c.remove.new.work c.requires.work.fits e.edits.fits e.edits.looks.same)

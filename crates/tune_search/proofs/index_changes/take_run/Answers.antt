@@ -19,10 +19,10 @@ loop-entry-preserved g c =
     take_more run at gone c.loop-entry-test.true ∙ ap (λ (x : Entry). take at run ++ x ∷ []) (sym c.entry-item.is) in
     record {
       looked = looked_more g.D.Disk.honest g.D.Disk.failures g.D.Disk.state c.in-Ok.field-0 c.args.pages.now c.loop-entry.pages c.take_entry.new.pages i.looked
-          e.looks;
-      fits = e.fits;
+          e.edits.looks;
+      fits = e.edits.fits;
       lays = λ honest before after parts entries h.
-          let first = i.lays (e.looks.was_honest honest) before after parts entries h in
+          let first = i.lays (e.edits.looks.was_honest honest) before after parts entries h in
           let done = e.lays honest before after first.0 (removed_all (take at run) entries) first.1 in
           let is : removed_all (gone ∷ []) (removed_all (take at run) entries) ≡ removed_all (take (at + 1) run) entries =
           sym (removed_all-append (take at run) (gone ∷ []) entries) ∙ ap (λ (x : List Entry). removed_all x entries) (sym more) in (

@@ -25,15 +25,12 @@ put_run-requires g c =
       (
         search rules,
         (
-          e1.answer,
+          record { is_open = e1.edits.answer; fits = e1.edits.fits },
           (
-            e1.fits,
-            (
-              (λ h1. let (before, after, parts, entries, h) = c.requires.index (e1.looks.was_honest h1) in
-                  let left = taken s0 s1 was is made (e1.lays h1) in_place before after parts entries h in
-                  (before, after, left.0, [], left.1)),
-              rw its c.requires.rising,
-            ),
+            (λ h1. let (before, after, parts, entries, h) = c.requires.index (e1.edits.looks.was_honest h1) in
+                let left = taken s0 s1 was is made (e1.lays h1) in_place before after parts entries h in
+                (before, after, left.0, [], left.1)),
+            rw its c.requires.rising,
           ),
         ),
       ),
@@ -57,7 +54,7 @@ returns-in-Ok-put_run-clause-lays g c = λ h2 before after parts entries h.
       listed = c.in_place_of-longer.ensures.list.1;
     } in
     let puts = subst (λ (run : List Entry). LaysIndex 48 s1 s2 made c.put_run.new.index (λ es. inserted_all run es)) its (e2.lays h2) in
-    let left = taken s0 s1 was is made (e1.lays (e2.looks.was_honest h2)) in_place before after parts entries h in
+    let left = taken s0 s1 was is made (e1.lays (e2.edits.looks.was_honest h2)) in_place before after parts entries h in
     puts before after left.0 [] left.1
 
 pub returns-in-Ok-put_run-clause-balance : goal.returns-in-Ok-put_run-clause-balance
@@ -66,8 +63,8 @@ returns-in-Ok-put_run-clause-balance g c = λ h2.
     c.args.index.now c.in_place_of-longer.result c.put_run.new.index c.in-Ok.ensures.balance c.in-Ok-put_run.ensures.balance
     c.in_place_of-longer.ensures.leaves.0
 
-pub returns-in-Err-put_run-clause-answer : goal.returns-in-Err-put_run-clause-answer
-returns-in-Err-put_run-clause-answer g c =
+pub returns-in-Err-put_run-clause-edits : goal.returns-in-Err-put_run-clause-edits
+returns-in-Err-put_run-clause-edits g c =
     let s0 = stand c.args.pages.now c.args.work.now in
     let s1 = stand c.take_all.new.pages c.take_all.new.work in
     let e1 = c.in-Ok.ensures in
@@ -81,10 +78,14 @@ returns-in-Err-put_run-clause-answer g c =
       first = c.in_place_of-longer.ensures.list.0;
       listed = c.in_place_of-longer.ensures.list.1;
     } in
-    edit_more c.in-Err-put_run.fault c.put_run.new.pages.closed
-    (λ full h2.
-    let h1 = c.in-Err-put_run.ensures.looks.was_honest h2 in
-    let (before, after, parts, entries, h) = c.requires.index (e1.looks.was_honest h1) in
-    let left = taken s0 s1 was is made (e1.lays h1) in_place before after parts entries h in
-    full_then s0 s1 was made c.args.run.now e1.balance in_place.pages (rw its at (full h2 before after left.0 [] left.1)))
-    c.in-Err-put_run.ensures.answer
+    record {
+      looks = search rules;
+      answer = edit_more c.in-Err-put_run.fault c.put_run.new.pages.closed
+          (λ full h2.
+          let h1 = c.in-Err-put_run.ensures.edits.looks.was_honest h2 in
+          let (before, after, parts, entries, h) = c.requires.index (e1.edits.looks.was_honest h1) in
+          let left = taken s0 s1 was is made (e1.lays h1) in_place before after parts entries h in
+          full_then s0 s1 was made c.args.run.now e1.balance in_place.pages (rw its at (full h2 before after left.0 [] left.1)))
+          c.in-Err-put_run.ensures.edits.answer;
+      fits = tt;
+    }

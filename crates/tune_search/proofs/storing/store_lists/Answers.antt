@@ -25,13 +25,10 @@ store_list-requires-2 g c =
     let is1 = c.store_list.new.index in (
       search rules,
       (
-        e1.answer,
-        (
-          e1.fits,
-          (λ h1.
-              rhythms_next was is1 is1 is1 same_entries same_entries same_entries s0 s1 (e1.lays h1)
-              (subst (λ (shape : SearchShape). HoldsSomeFour s0 shape) (sym c.indexes.view_is) (c.requires.holds (e1.looks.was_honest h1)))),
-        ),
+        record { is_open = e1.edits.answer; fits = e1.edits.fits },
+        (λ h1.
+            rhythms_next was is1 is1 is1 same_entries same_entries same_entries s0 s1 (e1.lays h1)
+            (subst (λ (shape : SearchShape). HoldsSomeFour s0 shape) (sym c.indexes.view_is) (c.requires.holds (e1.edits.looks.was_honest h1)))),
       ),
     )
 
@@ -53,14 +50,11 @@ store_list-requires-3 g c =
     let is2 = c.store_list-2.new.index in (
       search rules,
       (
-        e2.answer,
-        (
-          e2.fits,
-          (λ h2.
-              let h1 = e2.looks.was_honest h2 in
-              scales_next was is1 is2 is2 same_entries same_entries same_entries s0 s1 s2 (e1.lays h1) (e2.lays h2)
-              (subst (λ (shape : SearchShape). HoldsSomeFour s0 shape) (sym c.indexes.view_is) (c.requires.holds (e1.looks.was_honest h1)))),
-        ),
+        record { is_open = e2.edits.answer; fits = e2.edits.fits },
+        (λ h2.
+            let h1 = e2.edits.looks.was_honest h2 in
+            scales_next was is1 is2 is2 same_entries same_entries same_entries s0 s1 s2 (e1.lays h1) (e2.lays h2)
+            (subst (λ (shape : SearchShape). HoldsSomeFour s0 shape) (sym c.indexes.view_is) (c.requires.holds (e1.edits.looks.was_honest h1)))),
       ),
     )
 
@@ -83,13 +77,12 @@ store-requires g c =
     let s3 = stand c.store_list-3.new.pages c.store_list-3.new.work in
     let e3 = c.in-Ok-store_list-2.ensures in
     let is3 = c.store_list-3.new.index in record {
-      «open» = e3.answer;
-      fits = e3.fits;
+      work = record { is_open = e3.edits.answer; fits = e3.edits.fits };
       index = λ h3.
-          let h2 = e3.looks.was_honest h3 in
-          let h1 = e2.looks.was_honest h2 in
+          let h2 = e3.edits.looks.was_honest h3 in
+          let h1 = e2.edits.looks.was_honest h2 in
           incipits_next was is1 is2 is3 same_entries same_entries same_entries s0 s1 s2 s3 (e1.lays h1) (e2.lays h2) (e3.lays h3)
-          (subst (λ (shape : SearchShape). HoldsSomeFour s0 shape) (sym c.indexes.view_is) (c.requires.holds (e1.looks.was_honest h1)));
+          (subst (λ (shape : SearchShape). HoldsSomeFour s0 shape) (sym c.indexes.view_is) (c.requires.holds (e1.edits.looks.was_honest h1)));
     }
 
 pub returns-clause-lays : goal.returns-clause-lays
@@ -114,9 +107,9 @@ returns-clause-lays g c = λ h4.
     let s4 = stand c.store.new.pages c.store.new.work in
     let e4 = c.in-Ok-store.ensures in
     let is4 = c.store.new.self in
-    let h3 = e4.looks.was_honest h4 in
-    let h2 = e3.looks.was_honest h3 in
-    let h1 = e2.looks.was_honest h2 in
+    let h3 = e4.edits.looks.was_honest h4 in
+    let h2 = e3.edits.looks.was_honest h3 in
+    let h1 = e2.edits.looks.was_honest h2 in
     let is : SearchShape = record { notes = notes_of_index is4; titles = is1; rhythms = is2; scales = is3; incipits = shape_of is4 } in
     subst (λ (shape : SearchShape). LaysFour s0 s4 shape is (λ entries. entries)) c.indexes.view_is
     (four_laid was is1 is2 is3 (shape_of is4) same_entries same_entries same_entries same_entries s0 s1 s2 s3 s4 (notes_of_index is4)
@@ -140,9 +133,9 @@ returns-clause-takes g c = λ h4.
     let e3 = c.in-Ok-store_list-2.ensures in
     let s4 = stand c.store.new.pages c.store.new.work in
     let e4 = c.in-Ok-store.ensures in
-    let h3 = e4.looks.was_honest h4 in
-    let h2 = e3.looks.was_honest h3 in
-    let h1 = e2.looks.was_honest h2 in
+    let h3 = e4.edits.looks.was_honest h4 in
+    let h2 = e3.edits.looks.was_honest h3 in
+    let h1 = e2.edits.looks.was_honest h2 in
     subst (λ (shape : SearchShape). free_pages s0.used ≤ free_pages s4.used + lists_of shape) c.indexes.view_is
     (four_take s0 s1 s2 s3 s4 was
     (e1.takes h1) (e2.takes h2) (e3.takes h3) (e4.takes h4))
@@ -173,7 +166,7 @@ returns-in-Err-store_list-clause-takes g c = λ h2.
     } in
     let s1 = stand c.store_list.new.pages c.store_list.new.work in
     let e1 = c.in-Ok.ensures in
-    let h1 = c.in-Err-store_list.ensures.looks.was_honest h2 in
+    let h1 = c.in-Err-store_list.ensures.edits.looks.was_honest h2 in
     let fault = c.in-Err-store_list.fault in
     subst (λ (shape : SearchShape). fault ≡ FileFull → free_pages s0.used < lists_of shape) c.indexes.view_is
     (no_rhythms_take fault s0 was s1 (e1.takes h1) (c.in-Err-store_list.ensures.takes h2))
@@ -192,8 +185,8 @@ returns-in-Err-store_list-2-clause-takes g c = λ h3.
     let e1 = c.in-Ok.ensures in
     let s2 = stand c.store_list-2.new.pages c.store_list-2.new.work in
     let e2 = c.in-Ok-store_list.ensures in
-    let h2 = c.in-Err-store_list-2.ensures.looks.was_honest h3 in
-    let h1 = e2.looks.was_honest h2 in
+    let h2 = c.in-Err-store_list-2.ensures.edits.looks.was_honest h3 in
+    let h1 = e2.edits.looks.was_honest h2 in
     let fault = c.in-Err-store_list-2.fault in
     subst (λ (shape : SearchShape). fault ≡ FileFull → free_pages s0.used < lists_of shape) c.indexes.view_is
     (no_scales_take fault s0 was s1 s2 (e1.takes h1) (e2.takes h2) (c.in-Err-store_list-2.ensures.takes h3))
@@ -214,9 +207,9 @@ returns-in-Err-store-clause-takes g c = λ h4.
     let e2 = c.in-Ok-store_list.ensures in
     let s3 = stand c.store_list-3.new.pages c.store_list-3.new.work in
     let e3 = c.in-Ok-store_list-2.ensures in
-    let h3 = c.in-Err-store.ensures.looks.was_honest h4 in
-    let h2 = e3.looks.was_honest h3 in
-    let h1 = e2.looks.was_honest h2 in
+    let h3 = c.in-Err-store.ensures.edits.looks.was_honest h4 in
+    let h2 = e3.edits.looks.was_honest h3 in
+    let h1 = e2.edits.looks.was_honest h2 in
     let fault = c.in-Err-store.fault in
     subst (λ (shape : SearchShape). fault ≡ FileFull → free_pages s0.used < lists_of shape) c.indexes.view_is
     (no_incipits_take fault s0 was s1 s2 s3 (e1.takes h1) (e2.takes h2) (e3.takes h3) (c.in-Err-store.ensures.takes h4))

@@ -22,13 +22,10 @@ add_leaf_values-requires g c =
       (
         search rules,
         (
-          i.looked.still,
+          record { is_open = i.looked.still; fits = i.fits },
           (
-            i.fits,
-            (
-              (λ h. subst (λ (s : Stand). HasPages s c.args.self.now.pages) (sym (same.same h)) (c.requires.pages (i.looked.was_honest h))),
-              ((λ h. subst (λ (s : Stand). IsIndex g.row.W s c.args.self.now) (sym (same.same h)) (c.requires.index (i.looked.was_honest h))), here),
-            ),
+            (λ h. subst (λ (s : Stand). HasPages s c.args.self.now.pages) (sym (same.same h)) (c.requires.pages (i.looked.was_honest h))),
+            ((λ h. subst (λ (s : Stand). IsIndex g.row.W s c.args.self.now) (sym (same.same h)) (c.requires.index (i.looked.was_honest h))), here),
           ),
         ),
       ),
@@ -37,8 +34,8 @@ add_leaf_values-requires g c =
 -- the leaves before the first one have no entry of the range
 pub loop-place-init : goal.loop-place-init
 loop-place-init g c = record {
-  looked = looked_none g.D.Disk.honest g.D.Disk.failures g.D.Disk.state c.args.pages.now c.requires.open;
-  fits = c.requires.fits;
+  looked = looked_none g.D.Disk.honest g.D.Disk.failures g.D.Disk.state c.args.pages.now c.requires.work.is_open;
+  fits = c.requires.work.fits;
   so_far = λ h.
       let s = stand c.args.pages.now c.args.work.now in
       let is = c.requires.index h in
@@ -63,10 +60,10 @@ loop-place-preserved g c =
     let n : c.loop-place.place < length pages = search rules in
     record {
       looked = looked_more g.D.Disk.honest g.D.Disk.failures g.D.Disk.state c.in-Ok.field-0 c.args.pages.now c.loop-place.pages c.add_leaf_values.new.pages
-          i.looked call.looks;
-      fits = call.fits;
+          i.looked call.reads.looks;
+      fits = call.reads.fits;
       so_far = λ h.
-          let now = call.looks.was_honest h in
+          let now = call.reads.looks.was_honest h in
           let is = (stand_kept g.D.Disk.honest c.args.pages.now c.loop-place.pages c.args.work.now i.looked.same).same now in
           let v = subst (λ (s : Stand). c.add_leaf_values.new.values.items ≡ c.loop-place.values.items
           ++ values_within low high (leaf_in W (image_at s (slice_index pages c.loop-place.place)))) is (call.values h) in
@@ -74,11 +71,21 @@ loop-place-preserved g c =
           ∙ sym (values_more W low high c.loop-place.place s0 pages n);
     }
 
-pub returns-clause-stand : goal.returns-clause-stand
-returns-clause-stand g c = stand_kept g.D.Disk.honest c.args.pages.now c.loop-place.pages c.args.work.now c.loop-place.invariant.looked.same
+pub returns-clause-reads : goal.returns-clause-reads
+returns-clause-reads g c = record {
+  looks = search rules;
+  answer = search rules;
+  fits = search rules;
+  stand = stand_kept g.D.Disk.honest c.args.pages.now c.loop-place.pages c.args.work.now c.loop-place.invariant.looked.same;
+}
 
-pub returns-then-begins_above-clause-stand : goal.returns-then-begins_above-clause-stand
-returns-then-begins_above-clause-stand g c = stand_kept g.D.Disk.honest c.args.pages.now c.loop-place.pages c.args.work.now c.loop-place.invariant.looked.same
+pub returns-then-begins_above-clause-reads : goal.returns-then-begins_above-clause-reads
+returns-then-begins_above-clause-reads g c = record {
+  looks = search rules;
+  answer = search rules;
+  fits = search rules;
+  stand = stand_kept g.D.Disk.honest c.args.pages.now c.loop-place.pages c.args.work.now c.loop-place.invariant.looked.same;
+}
 
 pub returns-then-begins_above-clause-values : goal.returns-then-begins_above-clause-values
 returns-then-begins_above-clause-values g c = λ h.

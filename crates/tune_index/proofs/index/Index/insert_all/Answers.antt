@@ -3,18 +3,17 @@ use Rattle.std.proofs.Math.Seq.{take-add}
 use Rattle.std.proofs.lemmas.List.{take-append-drop}
 use Rattle.tune_pages.specs.Stand.{Stand}
 use Rattle.tune_pages.specs.Work.{stand}
-use Rattle.tune_pages.proofs.Frames.{trades_none, trades_then}
 use Rattle.tune_pages.proofs.Looking.{looked_more}
 use Rattle.index_keys.specs.Entries.{Entry, IsRising, inserted_all}
 use Rattle.index_keys.proofs.RisingEntries.{rises_back}
 use Rattle.tune_index.specs.Indexes.{entries_of}
 use Rattle.tune_index.proofs.Answering.{change_edit, edit_more}
-use Rattle.tune_index.proofs.Changes.{list_then}
+use Rattle.tune_index.proofs.Changes.{shape_none, shape_then}
 use Rattle.tune_index.proofs.Runs.{inserted_all-append, inserted_in_none}
 use Rattle.tune_index.proofs.index.Index.insert_all.Goals as goal
 
-pub returns-then-is_empty-clause-trades : goal.returns-then-is_empty-clause-trades
-returns-then-is_empty-clause-trades g c = λ h. trades_none c.args.self.now.pages (stand c.args.pages.now c.args.work.now)
+pub returns-then-is_empty-clause-shape : goal.returns-then-is_empty-clause-shape
+returns-then-is_empty-clause-shape g c = shape_none c.args.self.now (stand c.args.pages.now c.args.work.now) c.requires.pages
 
 -- a run goes whole into an index without leaves
 none_first : (width : ℕ) (all : Stand) (pages : List ℕ) (run : List Entry) → length pages ≡ 0 → IsRising run
@@ -22,12 +21,15 @@ none_first : (width : ℕ) (all : Stand) (pages : List ℕ) (run : List Entry) �
 none_first width all [] run none up = ap length (inserted_in_none run up)
 none_first width all (p ∷ ps) run none up = absurd (omega arith)
 
-pub returns-in-Err-clause-answer : goal.returns-in-Err-clause-answer
-returns-in-Err-clause-answer g c =
-    change_edit c.in-Err.fault c.requires.open
-    (λ full honest. (let all = none_first g.row.W (stand c.args.pages.now c.args.work.now) c.args.self.now.pages c.args.run.now full.0 c.requires.rising in
-    omega (arith, full.0, full.1, all)))
-    c.in-Err.ensures.answer
+pub returns-in-Err-clause-edits : goal.returns-in-Err-clause-edits
+returns-in-Err-clause-edits g c = record {
+  looks = search rules;
+  answer = change_edit c.in-Err.fault c.requires.work.is_open
+      (λ full honest. (let all = none_first g.row.W (stand c.args.pages.now c.args.work.now) c.args.self.now.pages c.args.run.now full.0 c.requires.rising in
+      omega (arith, full.0, full.1, all)))
+      c.in-Err.ensures.work.answer;
+  fits = tt;
+}
 
 -- what is left of a run rises
 rest_rises : (at : ℕ) (run : List Entry) → IsRising run → IsRising (drop at run)
@@ -40,19 +42,16 @@ insert_from-requires g c =
       (
         search rules,
         (
-          i.looked.still,
+          record { is_open = i.looked.still; fits = i.fits },
           (
-            i.fits,
+            i.shape.pages,
             (
-              i.pages,
+              i.index,
               (
-                i.index,
+                i.some,
                 (
-                  i.some,
-                  (
-                    rest_rises c.loop-at.at c.args.run.now c.requires.rising,
-                    c.loop-at-test.true,
-                  ),
+                  rest_rises c.loop-at.at c.args.run.now c.requires.rising,
+                  c.loop-at-test.true,
                 ),
               ),
             ),
@@ -74,16 +73,12 @@ loop-at-preserved g c =
     record {
       within = e.within;
       some = e.some;
-      looked = looked_more g.D.Disk.honest g.D.Disk.failures g.D.Disk.state end c.args.pages.now c.loop-at.pages c.insert_from.new.pages i.looked e.looks;
-      fits = e.fits;
-      list = list_then c.args.self.now c.loop-at.self c.insert_from.new.index i.list e.list;
-      pages = e.pages;
-      balance = i.balance ∙ e.balance;
-      trades = λ h. trades_then c.args.self.now.pages c.loop-at.self.pages c.insert_from.new.index.pages s0 s1 s2 (i.trades (e.looks.was_honest h))
-          (e.trades h);
+      looked = looked_more g.D.Disk.honest g.D.Disk.failures g.D.Disk.state end c.args.pages.now c.loop-at.pages c.insert_from.new.pages i.looked e.edits.looks;
+      fits = e.edits.fits;
+      shape = shape_then c.args.self.now c.loop-at.self c.insert_from.new.index s0 s1 s2 e.edits.looks.was_honest (λ h. h) i.shape e.shape;
       index = λ h. (e.entries h).0;
       entries = λ h.
-          let old = i.entries (e.looks.was_honest h) in
+          let old = i.entries (e.edits.looks.was_honest h) in
           let first = entries_of g.row.W s0 c.args.self.now.pages in
           let part = take (end - at) (drop at run) in
           let sum : at + (end - at) ≡ end = omega (arith, e.later) in
@@ -92,18 +87,22 @@ loop-at-preserved g c =
           ∙ ap (λ (x : List Entry). inserted_all x first) (sym t);
     }
 
-pub returns-in-Err-insert_from-clause-answer : goal.returns-in-Err-insert_from-clause-answer
-returns-in-Err-insert_from-clause-answer g c =
+pub returns-in-Err-insert_from-clause-edits : goal.returns-in-Err-insert_from-clause-edits
+returns-in-Err-insert_from-clause-edits g c =
     let i = c.loop-at.invariant in
     let e = c.in-Err-insert_from.ensures in
     let at = c.loop-at.at in
     let run : List Entry = c.args.run.now in
     let first = entries_of g.row.W (stand c.args.pages.now c.args.work.now) c.args.self.now.pages in
-    edit_more c.in-Err-insert_from.fault c.insert_from.new.pages.closed
-    (λ full honest.
-    let back = e.looks.was_honest honest in
-    let few = full honest in
-    let now = ap (λ (x : List Entry). length (inserted_all (drop at run) x)) (i.entries back) in
-    let whole = ap length (sym (inserted_all-append (take at run) (drop at run) first)
-    ∙ ap (λ (x : List Entry). inserted_all x first) (take-append-drop at run)) in
-    omega (arith, few, now, whole, i.balance)) e.answer
+    record {
+      looks = search rules;
+      answer = edit_more c.in-Err-insert_from.fault c.insert_from.new.pages.closed
+          (λ full honest.
+          let back = e.edits.looks.was_honest honest in
+          let few = full honest in
+          let now = ap (λ (x : List Entry). length (inserted_all (drop at run) x)) (i.entries back) in
+          let whole = ap length (sym (inserted_all-append (take at run) (drop at run) first)
+          ∙ ap (λ (x : List Entry). inserted_all x first) (take-append-drop at run)) in
+          omega (arith, few, now, whole, i.shape.balance)) e.edits.answer;
+      fits = tt;
+    }

@@ -20,10 +20,14 @@ returns-then-listed-clause-stores g c = λ h.
     subst (λ (n : ℕ). StoresList s s was.first n was.pages) (sym same)
     (stores_none s was.first was.pages has.0 has.1 has.2 (has.3 on) (λ t u a b x y. c.law_of_chains.ensures.once s.pages was.first t u a b x.chain y.chain))
 
-pub returns-in-Err-put_chain-clause-answer : goal.returns-in-Err-put_chain-clause-answer
-returns-in-Err-put_chain-clause-answer g c =
+pub returns-in-Err-put_chain-clause-edits : goal.returns-in-Err-put_chain-clause-edits
+returns-in-Err-put_chain-clause-edits g c =
     let still : c.free_chain.new.self.closed ≡ false = search rules in
-    work_edit c.in-Err-put_chain.fault c.free_chain.new.self.closed still (λ _. tt) c.in-Err-put_chain.ensures.answer
+    record {
+      looks = search rules;
+      answer = work_edit c.in-Err-put_chain.fault c.free_chain.new.self.closed still (λ _. tt) c.in-Err-put_chain.ensures.answer;
+      fits = tt;
+    }
 
 -- as many pages are free then, and those of the old list besides
 freed_list : (s mid : Stand) (first at : ℕ) (trail all : List ℕ) → at ≡ first → HasChain s first trail all

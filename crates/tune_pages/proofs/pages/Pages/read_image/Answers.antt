@@ -19,5 +19,10 @@ returns-clause-image g c =
     ok_as c.fetch.result _ _ (λ is h. is h
     ∙ read_kept c.args.self.now.pages c.args.self.now.used c.args.work.now c.args.page c.requires.fits c.requires.used none) c.fetch.ensures.image
 
-pub returns-clause-stand : goal.returns-clause-stand
-returns-clause-stand g c = stand_ok g.D.Disk.honest c.fetch.result _ c.args.self.now c.fetch.new.self c.args.work.now c.fetch.ensures.looks.same
+pub returns-clause-reads : goal.returns-clause-reads
+returns-clause-reads g c = record {
+  looks = search rules;
+  answer = search rules;
+  fits = search rules;
+  stand = stand_ok g.D.Disk.honest c.fetch.result _ c.args.self.now c.fetch.new.self c.args.work.now c.fetch.ensures.looks.same;
+}

@@ -28,15 +28,16 @@ loop-page-preserved g c =
     let call = c.in-Ok-Some.ensures in
     let some = rw c.in-Ok-Some.field-0-is at c.in-Ok-Some.ensures in
     let at = c.loop-page.self in
-    let so = looked_more g.D.Disk.honest g.D.Disk.failures g.D.Disk.state c.in-Ok-Some.field-0 c.args.self.now at c.read_piece.new.self inv.looked call.looks in
+    let so = looked_more g.D.Disk.honest g.D.Disk.failures g.D.Disk.state c.in-Ok-Some.field-0 c.args.self.now at c.read_piece.new.self
+    inv.looked call.reads.looks in
     let ne : c.loop-page.page ≢ 0 = omega arith in
     let more : c.loop-page.left ≢ 0 = omega arith in
     record {
       looked = so;
-      fits = call.fits;
+      fits = call.reads.fits;
       none = λ z. absurd (ne (inv.none z).0);
       walk = λ h.
-          let now = call.looks.was_honest h in
+          let now = call.reads.looks.was_honest h in
           let is = (stand_kept g.D.Disk.honest c.args.self.now c.loop-page.self c.args.work.now inv.looked.same).same now in
           let P : Stand → Type 0 = λ s. IsLink (page_at s.pages c.loop-page.page) × (c.in-Ok-Some.next ≡ next_page_of (page_at s.pages c.loop-page.page))
           × (c.read_piece.new.bytes.items ≡ c.loop-page.bytes.items ++ piece_of (page_at s.pages c.loop-page.page)) in
@@ -62,7 +63,7 @@ close-requires-in-Ok-None g c = λ h.
     (let inv = c.loop-page.invariant in
     let none = rw c.in-Ok-None.field-0-is at c.in-Ok-None.ensures in
     let ne : c.loop-page.page ≢ 0 = omega arith in
-    let now = c.in-Ok-None.ensures.looks.was_honest h in
+    let now = c.in-Ok-None.ensures.reads.looks.was_honest h in
     let walk = inv.walk now in
     let some = c.requires.chain (inv.looked.was_honest now) (leads_some _ _ _ _ ne walk.leads) in
     let link = reads_link _ _ _ _ _ _ _ ne walk some.2 in
@@ -75,5 +76,10 @@ returns-clause-bytes g c = λ h trail all has.
     reads_end (stand c.args.self.now c.args.work.now) c.args.first c.loop-page.page c.loop-page.bytes.items trail all c.loop-page.left end
     (c.loop-page.invariant.walk h) has)
 
-pub returns-clause-stand : goal.returns-clause-stand
-returns-clause-stand g c = stand_kept g.D.Disk.honest c.args.self.now c.loop-page.self c.args.work.now c.loop-page.invariant.looked.same
+pub returns-clause-reads : goal.returns-clause-reads
+returns-clause-reads g c = record {
+  looks = search rules;
+  answer = search rules;
+  fits = search rules;
+  stand = stand_kept g.D.Disk.honest c.args.self.now c.loop-page.self c.args.work.now c.loop-page.invariant.looked.same;
+}

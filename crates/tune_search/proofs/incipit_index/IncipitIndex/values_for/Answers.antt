@@ -27,13 +27,10 @@ candidates-requires g c =
       (
         omega arith,
         (
-          c.requires.open,
+          c.requires.work,
           (
-            c.requires.fits,
-            (
-              (λ h. let some = subst is c.in-Twelve.is (c.requires.holds h) in among_pages 48 s shape some.0 some.1 some.2 some.3 some.4),
-              (λ h. let some = subst is c.in-Twelve.is (c.requires.holds h) in among_index 48 s shape some.0 some.1 some.2 some.3 some.4),
-            ),
+            (λ h. let some = subst is c.in-Twelve.is (c.requires.holds h) in among_pages 48 s shape some.0 some.1 some.2 some.3 some.4),
+            (λ h. let some = subst is c.in-Twelve.is (c.requires.holds h) in among_index 48 s shape some.0 some.1 some.2 some.3 some.4),
           ),
         ),
       ),

@@ -1,4 +1,4 @@
-use Rattle.std.proofs.Common.{◌≡◌, ap, sym, subst, ◌∙◌}
+use Rattle.std.proofs.Common.{rules, ◌≡◌, ap, sym, subst, ◌∙◌}
 use Rattle.tune_pages.specs.Work.{stand}
 use Rattle.tune_index.proofs.Answering.{edit_more}
 use Rattle.tune_search.specs.IncipitForms.{notes_of_index, shape_of}
@@ -20,14 +20,18 @@ lengthen-requires-clause-index g c = λ h0.
     has_index s0 s0 titles rhythms scales was was c.args.run.now
     (subst (λ (shape : SearchShape). HoldsIncipits s0 shape c.args.run.now) (sym whole) (c.requires.holds h0))
 
-pub returns-in-Err-clause-answer : goal.returns-in-Err-clause-answer
-returns-in-Err-clause-answer g c =
+pub returns-in-Err-clause-edits : goal.returns-in-Err-clause-edits
+returns-in-Err-clause-edits g c =
     let s0 = stand c.args.pages.now c.args.work.now in
     let was = c.in-Eight.index in
-    edit_more c.in-Err.fault c.lengthen.new.pages.closed
-    (λ full h1 before after parts tunes are h.
-    full_for_tunes s0 s0 c.self.inside.titles c.self.inside.rhythms c.self.inside.scales was was c.args.run.now (full h1) tunes are)
-    c.in-Err.ensures.answer
+    record {
+      looks = search rules;
+      answer = edit_more c.in-Err.fault c.lengthen.new.pages.closed
+          (λ full h1 before after parts tunes are h.
+          full_for_tunes s0 s0 c.self.inside.titles c.self.inside.rhythms c.self.inside.scales was was c.args.run.now (full h1) tunes are)
+          c.in-Err.ensures.edits.answer;
+      fits = tt;
+    }
 
 pub returns-clause-holds : goal.returns-clause-holds
 returns-clause-holds g c = λ h1 before after parts tunes are h.

@@ -1,3 +1,4 @@
+use Rattle.std.proofs.Common.{rules}
 use Rattle.tune_pages.specs.Work.{stand}
 use Rattle.tune_index.proofs.Answering.{edit_more}
 use Rattle.tune_search.proofs.Balances.{full_for_texts}
@@ -12,9 +13,14 @@ returns-in-Ok-clause-holds g c = λ honest before after parts tunes more small a
     texts_more (stand c.args.pages.now c.args.work.now) (stand c.put_runs.new.pages c.put_runs.new.work) c.args.self.now c.put_runs.new.indexes c.args.runs.now
     c.requires.notes c.in-Ok.ensures.notes (c.in-Ok.ensures.lays honest) before after parts tunes more small also are h
 
-pub returns-in-Err-clause-answer : goal.returns-in-Err-clause-answer
-returns-in-Err-clause-answer g c = edit_more c.in-Err.fault c.put_runs.new.pages.closed
-    (λ full honest before after parts tunes more small also are h.
-    full_for_texts (stand c.args.pages.now c.args.work.now) c.args.self.now c.args.runs.now c.requires.notes (full honest) before after parts tunes more
-    small also are h)
-    c.in-Err.ensures.answer
+pub returns-in-Err-clause-edits : goal.returns-in-Err-clause-edits
+returns-in-Err-clause-edits g c =
+    record {
+      looks = search rules;
+      answer = edit_more c.in-Err.fault c.put_runs.new.pages.closed
+          (λ full honest before after parts tunes more small also are h.
+          full_for_texts (stand c.args.pages.now c.args.work.now) c.args.self.now c.args.runs.now c.requires.notes (full honest) before after parts tunes more
+          small also are h)
+          c.in-Err.ensures.edits.answer;
+      fits = tt;
+    }
