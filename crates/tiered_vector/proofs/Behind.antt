@@ -1,6 +1,6 @@
 -- Rings, and what stands behind them.
 use Rattle.std.proofs.Common.{◌≡◌, ℕ, ◌+◌, ◌*◌, ◌-◌, ◌<◌, ◌≤◌, List, [], ◌∷◌, ◌++◌, length, get_or, take, drop, arith, ap, ap₂, sym, ◌∙◌, append-nil, suc}
-use Rattle.std.proofs.Common.{append_assoc, length-take-le, take-append-drop}
+use Rattle.std.proofs.Common.{append_assoc, length-take-le, refl, set, take-append-drop}
 use Rattle.std.proofs.lemmas.List.{get_or_append_left, drop_all, drop_more, drop_at, take_all, take_at}
 use Rattle.std.proofs.lemmas.List.Edits.{remove-append_left, remove-append_right, insert-append_left, insert-append_right}
 use Rattle.std.specs.List.{insert, remove}
@@ -91,10 +91,24 @@ one_ring (turn ∷ []) ring one is =
     ap₂ (λ xs ys. turned turn xs ++ ys) (take_all 1023 ring (omega arith)) (drop_all 1023 ring (omega arith)) ∙ append-nil (turned turn ring)
 one_ring (turn ∷ other ∷ more) ring one is = absurd (omega arith)
 
+-- the last ring, and those before it
+pub last_ring : {T : Type 0} (turns before last : List ℕ) (items xs ys : List T) → turns ≡ before ++ last → items ≡ xs ++ ys
+    → length xs ≡ 1023 * length before → length last ≡ 1 → length ys ≡ 1023 → tiered turns items ≡ tiered before xs ++ turned (get_or last 0 0) ys
+last_ring turns before last items xs ys turns_are items_are is one ring_is =
+    ap₂ tiered turns_are items_are ∙ rings_joined before last xs ys is ∙ ap (λ zs. tiered before xs ++ zs) (one_ring last ys one ring_is)
+
+-- a ring put behind others
+pub ring_behind : {T : Type 0} (turns last : List ℕ) (turn : ℕ) (items ring : List T) → length items ≡ 1023 * length turns → length last ≡ 1
+    → length ring ≡ 1023 → tiered (turns ++ set last 0 turn) (items ++ ring) ≡ tiered turns items ++ turned turn ring
+ring_behind turns [] turn items ring is one whole = absurd (omega arith)
+ring_behind turns (was ∷ []) turn items ring is one whole =
+    rings_joined turns (turn ∷ []) items ring is ∙ ap (λ zs. tiered turns items ++ zs) (one_ring (turn ∷ []) ring refl whole)
+ring_behind turns (was ∷ other ∷ more) turn items ring is one whole = absurd (omega arith)
+
 -- the last ring, which becomes what stands behind the others
 pub last_ring_left : {T : Type 0} (turns before last : List ℕ) (items xs ys ring : List T) → turns ≡ before ++ last → items ≡ xs ++ ys
     → length xs ≡ 1023 * length before → length last ≡ 1 → length ys ≡ 1023 → ring ≡ turned (get_or last 0 0) ys
     → tiered before (xs ++ ring) ≡ tiered turns items
 last_ring_left turns before last items xs ys ring turns_are items_are is one ring_is turned_is =
-    items_behind before xs ring is ∙ ap (λ zs. tiered before xs ++ zs) (turned_is ∙ sym (one_ring last ys one ring_is))
-    ∙ sym (ap₂ tiered turns_are items_are ∙ rings_joined before last xs ys is)
+    items_behind before xs ring is ∙ ap (λ zs. tiered before xs ++ zs) turned_is
+    ∙ sym (last_ring turns before last items xs ys turns_are items_are is one ring_is)

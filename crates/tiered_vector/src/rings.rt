@@ -44,10 +44,12 @@ pub(crate) fn shift_down<T>(rings: &mut [T], turns: &mut [u16], last: T) -> T
     if turns.is_empty() {
         return last;
     }
-    let (ring, others) = rings.split_at_mut(RING);
-    let (turn, rest) = turns.split_at_mut(1);
-    let next = shift_down(others, rest, last);
-    pass_down(ring, &mut turn[0], next)
+    // From the last ring on, so that a call is the last step, and no stack is kept.
+    let before = turns.len() - 1;
+    let (others, ring) = rings.split_at_mut(before * RING);
+    let (rest, turn) = turns.split_at_mut(before);
+    let next = pass_down(ring, &mut turn[0], last);
+    shift_down(others, rest, next)
 }
 
 // The last item of rings goes, each other moves one place, and one comes before the first.

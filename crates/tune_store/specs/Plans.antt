@@ -86,6 +86,7 @@ CanChangeTo (Some change) layout labels sets = CanChange change layout labels se
 -- whether a change may ask for memory, in a store that has its tunes in memory
 abbrev pub grows : Option Change → Bool
 grows (Some (Add first texts)) = true
+grows (Some (Put place tune)) = true
 grows (Some (NewSet name)) = true
 grows (Some (AddPlace name number)) = true
 grows change = false

@@ -1,6 +1,7 @@
 //! An archive of tunes: the commands, their answers, and the stores that carry them out.
 #![tactic(auto)]
 
+mod boxed_tune;
 mod catalog;
 mod command;
 mod index_rows;

@@ -1,6 +1,6 @@
 // An archive in memory.
 ghost use Rattle.std.specs.Prelude.{◌≡◌, ◌≢◌, ℕ, ◌+◌, ◌^◌, ◌<◌, ◌≤◌, ◌++◌, true, length};
-ghost use Rattle.std.specs.Prelude.{IfSome, IfNone, IfErr, IsErrOf, OnOk, OnErr};
+ghost use Rattle.std.specs.Prelude.{IfOk, IfSome, IfNone, IfErr, IsErrOf, OnOk, OnErr};
 ghost use Rattle.std.specs.Prelude.{IsTrue, false, slice_index_or, vec_len};
 ghost use Rattle.tune_store.specs.State.{State, IsState, NumbersRiseFrom, empty_state};
 ghost use Rattle.tune_store.specs.TuneSteps.{numbered, moved};
@@ -17,6 +17,7 @@ ghost use Rattle.tune_store.specs.Plans.{CanChange, CanChangeTo};
 ghost use Rattle.tune_store.specs.Inside.Lists.{CarriedOut, Made, IsPlaceAfter, IsPlaceFrom};
 ghost use Rattle.tune_store.specs.Inside.Lists.{state_with};
 
+use crate::boxed_tune::BoxedTune;
 use crate::catalog::{Catalog, Label, all_places};
 use crate::command::{Command, Refusal, Reply};
 use crate::layout::Layout;
@@ -24,7 +25,7 @@ use crate::plans::{Change, Plan, decide};
 use crate::tune::Tune;
 use crate::tune_store::TuneStore;
 use abc_fields::TuneText;
-use std::alloc::Global;
+use std::alloc::{AllocError, Global};
 use std::marker::Model;
 use tiered_vector::TieredVector;
 use tune_queries::Sought;
@@ -35,7 +36,7 @@ use tune_sets::SetLists;
 pub struct ListArchive {
     alloc: Global,
     layout: Layout,
-    tunes: TieredVector<Tune>,
+    tunes: TieredVector<BoxedTune>,
     sets: SetLists,
 }
 
@@ -118,7 +119,7 @@ impl Catalog for ListArchive {
     }
 
     fn label(&self, place: usize) -> Label {
-        let tune = self.tunes.get(place);
+        let tune = self.tunes.get(place).tune();
         Label {
             number: tune.number,
             revision: tune.revision,
@@ -143,7 +144,7 @@ impl Catalog for ListArchive {
     }
 
     fn text(&self, place: usize) -> &TuneText {
-        &self.tunes.get(place).text
+        &self.tunes.get(place).tune().text
     }
 
     fn candidates(&mut self, _sought: &Sought<'_>) -> Result<Vec<usize>, Refusal> {
@@ -152,7 +153,7 @@ impl Catalog for ListArchive {
 }
 
 // The place of the first tune whose number is not below this one, or behind the last.
-fn place_from(tunes: &TieredVector<Tune>, number: u32) -> usize
+fn place_from(tunes: &TieredVector<BoxedTune>, number: u32) -> usize
     requires { NumbersRiseFrom 0 tunes.now.items }
     ensures { IsPlaceFrom number tunes.now.items result }
 {
@@ -160,7 +161,7 @@ fn place_from(tunes: &TieredVector<Tune>, number: u32) -> usize
     let mut last = tunes.len();
     while first < last {
         let middle = first + (last - first) / 2;
-        if tunes.get(middle).number < number {
+        if tunes.get(middle).tune().number < number {
             first = middle + 1;
         } else {
             last = middle;
@@ -170,26 +171,26 @@ fn place_from(tunes: &TieredVector<Tune>, number: u32) -> usize
 }
 
 // Whether the tune of a number is at a place.
-fn is_at(tunes: &TieredVector<Tune>, place: usize, number: u32) -> bool
+fn is_at(tunes: &TieredVector<BoxedTune>, place: usize, number: u32) -> bool
     ensures within { IsTrue result → (place < length tunes.now.items) }
     ensures named { IsTrue result → (d : Tune)
         → (slice_index_or tunes.now.items place d).number ≡ number }
     ensures other { result ≡ false → place < length tunes.now.items → (d : Tune)
         → (slice_index_or tunes.now.items place d).number ≢ number }
 {
-    place < tunes.len() && tunes.get(place).number == number
+    place < tunes.len() && tunes.get(place).tune().number == number
 }
 
 // Where the tune of a number stands if no number between the first tune's and its own is free.
-fn place_without_gaps(tunes: &TieredVector<Tune>, number: u32) -> usize {
+fn place_without_gaps(tunes: &TieredVector<BoxedTune>, number: u32) -> usize {
     if tunes.len() == 0 {
         return 0;
     }
-    number.saturating_sub(tunes.get(0).number) as usize
+    number.saturating_sub(tunes.get(0).tune().number) as usize
 }
 
 // The place of the tune of a number.
-fn place_of(tunes: &TieredVector<Tune>, number: u32) -> Option<usize>
+fn place_of(tunes: &TieredVector<BoxedTune>, number: u32) -> Option<usize>
     requires { NumbersRiseFrom 0 tunes.now.items }
     ensures within { IfSome result (λ place. place < length (labels_of tunes.now.items)) }
     ensures found { IfSome result (λ place. (d : Label)
@@ -236,14 +237,21 @@ impl TuneStore for ListArchive {
             self.old self.new (passed self.old command.now result) }
     {
         let plan = decide(self.alloc, self, command)?;
-        carry_out(&mut self.layout, &mut self.tunes, &mut self.sets, plan)
+        carry_out(
+            self.alloc,
+            &mut self.layout,
+            &mut self.tunes,
+            &mut self.sets,
+            plan,
+        )
     }
 }
 
 // Makes the change of a plan, and gives its reply. The one refusal is out of memory.
 fn carry_out(
+    alloc: Global,
     layout: &mut Layout,
-    tunes: &mut TieredVector<Tune>,
+    tunes: &mut TieredVector<BoxedTune>,
     sets: &mut SetLists,
     plan: Plan,
 ) -> Result<Reply, Refusal>
@@ -254,15 +262,16 @@ fn carry_out(
 {
     let Plan { change, reply } = plan;
     if let Some(change) = change {
-        make(layout, tunes, sets, change)?;
+        make(alloc, layout, tunes, sets, change)?;
     }
     Ok(reply)
 }
 
 // Makes a change. The error is out of memory, and everything stays then.
 fn make(
+    alloc: Global,
     layout: &mut Layout,
-    tunes: &mut TieredVector<Tune>,
+    tunes: &mut TieredVector<BoxedTune>,
     sets: &mut SetLists,
     change: Change,
 ) -> Result<(), Refusal>
@@ -273,11 +282,12 @@ fn make(
 {
     match change {
         Change::Add { first, texts } => {
-            tunes.reserve(texts.len())?;
-            add_tunes(tunes, texts, first);
+            let added = boxed_tunes(alloc, texts, first)?;
+            tunes.reserve(added.len())?;
+            add_tunes(tunes, added);
         }
         Change::Put { place, tune } => {
-            tunes.replace(place, tune);
+            tunes.replace(place, BoxedTune::new(alloc, tune)?);
         }
         Change::Take { place } => {
             tunes.remove(place);
@@ -297,12 +307,16 @@ fn make(
     Ok(())
 }
 
-// Adds tunes of these texts, with numbers from `first` on, for which there is room.
-fn add_tunes(tunes: &mut TieredVector<Tune>, texts: Vec<TuneText>, first: u32)
-    requires room { length tunes.old.items + vec_len texts ≤ tunes.old.room }
-    requires numbers { first + vec_len texts < 2 ^ 32 }
-    ensures { tunes.new.items ≡ tunes.old.items ++ numbered first texts.items }
+// Tunes of these texts, with numbers from `first` on. The error is out of memory.
+fn boxed_tunes(
+    alloc: Global,
+    texts: Vec<TuneText>,
+    first: u32,
+) -> Result<Vec<BoxedTune>, AllocError>
+    requires { first + vec_len texts < 2 ^ 32 }
+    ensures { IfOk result (λ tunes. tunes.items ≡ numbered first texts.items) }
 {
+    let mut tunes = Vec::with_capacity(alloc, texts.len())?;
     let mut number = first;
     for text in texts {
         let tune = Tune {
@@ -310,26 +324,37 @@ fn add_tunes(tunes: &mut TieredVector<Tune>, texts: Vec<TuneText>, first: u32)
             revision: 1,
             text,
         };
-        tunes.push(tune);
+        tunes.push(BoxedTune::new(alloc, tune)?)?;
         number += 1;
+    }
+    Ok(tunes)
+}
+
+// Adds tunes, for which there is room.
+fn add_tunes(tunes: &mut TieredVector<BoxedTune>, added: Vec<BoxedTune>)
+    requires { length tunes.old.items + vec_len added ≤ tunes.old.room }
+    ensures { tunes.new.items ≡ tunes.old.items ++ added.items }
+{
+    for tune in added {
+        tunes.push(tune);
     }
 }
 
 // Gives the tune of a number another one, and moves it to where that belongs.
-fn move_tune(tunes: &mut TieredVector<Tune>, number: u32, to: u32)
+fn move_tune(tunes: &mut TieredVector<BoxedTune>, number: u32, to: u32)
     requires { NumbersRiseFrom 0 tunes.old.items }
     ensures { tunes.new.items ≡ moved number to tunes.old.items }
 {
     if let Some(place) = place_of(tunes, number) {
         let mut tune = tunes.remove(place);
-        tune.number = to;
+        tune.renumber(to);
         let place = place_after(tunes, to);
         tunes.insert(place, tune);
     }
 }
 
 // The place of the first tune of a greater number, or behind the last.
-fn place_after(tunes: &TieredVector<Tune>, number: u32) -> usize
+fn place_after(tunes: &TieredVector<BoxedTune>, number: u32) -> usize
     requires { NumbersRiseFrom 0 tunes.now.items }
     ensures { IsPlaceAfter number tunes.now.items result }
 {

@@ -11,16 +11,17 @@ loop-first-preserved c =
       within = omega (arith, kept.within);
       before = kept.before;
       behind = not_lesser c.args.number c.args.tunes.now.items middle c.get.result.now c.requires (omega (arith, kept.within)) c.get.ensures
-          c.if-get-number.false;
+          (rw c.tune.ensures at c.if-tune-number.false);
     }
 
-pub loop-first-preserved-then-get-number : goal.loop-first-preserved-then-get-number
-loop-first-preserved-then-get-number c =
+pub loop-first-preserved-then-tune-number : goal.loop-first-preserved-then-tune-number
+loop-first-preserved-then-tune-number c =
     let kept = c.loop-first.invariant in
     let middle : ℕ = c.loop-first.first + (c.loop-first.last - c.loop-first.first) / 2 in
     record {
       ordered = omega arith;
       within = kept.within;
-      before = lesser c.args.number c.args.tunes.now.items middle c.get.result.now c.requires (omega (arith, kept.within)) c.get.ensures c.if-get-number.true;
+      before = lesser c.args.number c.args.tunes.now.items middle c.get.result.now c.requires (omega (arith, kept.within)) c.get.ensures
+          (rw c.tune.ensures at c.if-tune-number.true);
       behind = kept.behind;
     }
