@@ -1,11 +1,12 @@
 -- Old copies that are taken away.
 use Rattle.std.specs.Prelude.{◌≡◌, ◌⊎◌, ℕ, zero, suc, ◌<◌, List, [], ◌++◌, Option, Some, None, Ok}
-use Rattle.std.specs.Prelude.{true}
+use Rattle.std.specs.Prelude.{true, string_bytes}
 use Rattle.std.specs.List.{Contains}
 use Rattle.desk_copies.specs.SumFiles.{sum_path}
 use Rattle.tune_desk.specs.DeskDeeds.{DeskDeed, ChangesNothing, removed, tested}
 use Rattle.tune_desk.specs.Results.{AreFoundApart, EachAfter, archive_head}
 use Rattle.desk_backups.specs.CopyNames.{numbered_copy}
+use Rattle.desk_backups.specs.declared.old_copies.AskedThinning.{AskedThinning}
 
 -- FILE and COPY, the number of the copy that was just made, and how many are to stay.
 pub record Thinning : Type 0 where
@@ -13,6 +14,14 @@ pub record Thinning : Type 0 where
   pub copy : List ℕ
   pub newest : ℕ
   pub keep : ℕ
+
+abbrev pub thinning_by : AskedThinning → Thinning
+thinning_by asked = record {
+  file = string_bytes asked.file.now;
+  copy = string_bytes asked.copy.now;
+  newest = asked.newest;
+  keep = asked.keep;
+}
 
 -- COPY of a number was looked at, and begins as an archive.
 abbrev pub IsFound : {D : Type 0} → Thinning → ℕ → List (DeskDeed D) → Type 0

@@ -10,9 +10,9 @@ ghost use Rattle.desk_backups.specs.OldCopies.{ThinsBy};
 use crate::backup_reasons::{Unbacked, say_unbacked};
 use crate::copy_names::{NamedCopy, find_name};
 use crate::file_copies::copy_file;
-use crate::old_copies::thin_out;
+use crate::old_copies::{AskedThinning, thin_out};
 use crate::sums_beside::write_sum;
-use desk_scenes::{BAD_WORDS, DONE, Progress, REFUSED, bring_to_rest, print, say};
+use desk_scenes::{BAD_WORDS, DONE, Progress, REFUSED, StandardStreams, bring_to_rest, print, say};
 use std::alloc::{AllocError, Global};
 use std::io::Write;
 use tune_desk::Desk;
@@ -28,48 +28,58 @@ pub fn backup<C: Console, E: Write + Progress, D: Disk, K: AllocGlobal + Desk<Di
     file: &String,
     copy: &String,
     keep: Option<u32>,
-    console: &mut C,
-    errors: &mut E,
+    standard: &mut StandardStreams<C, E>,
 ) -> u8
     ensures files { SparesCopies (string_bytes file.now) (string_bytes copy.now) keep
         (K.deeds desk.old) (K.deeds desk.new) }
     ensures backs_up { Backs D.Disk (string_bytes file.now) (string_bytes copy.now) keep (record {
-      streams = streams_in C.Console console.old console.new;
+      streams = streams_in C.Console standard.old.console standard.new.console;
       was = K.deeds desk.old;
       now = K.deeds desk.new;
       status = result;
     }) }
 {
     if keep == Some(0) {
-        say(errors, "backup", "--keep takes a number from 1");
+        say(
+            &mut standard.errors,
+            "backup",
+            "--keep takes a number from 1",
+        );
         return BAD_WORDS;
     }
-    match back_up(desk, file, copy, keep, errors) {
-        Ok(named) => tell_name(desk.alloc(), console, errors, &named),
-        Err(why) => say_unbacked(errors, file.as_str(), copy.as_str(), &why),
+    let asked = AskedBackup { file, copy, keep };
+    match back_up(desk, &asked, &mut standard.errors) {
+        Ok(named) => tell_name(desk.alloc(), standard, &named),
+        Err(why) => say_unbacked(&mut standard.errors, file.as_str(), copy.as_str(), &why),
     }
+}
+
+// What is asked for: a copy of FILE at COPY, or behind it, and how many copies stay, if that is.
+#[derive(Clone, Copy)]
+struct AskedBackup<'a> {
+    file: &'a String,
+    copy: &'a String,
+    keep: Option<u32>,
 }
 
 // Copies FILE, once it is at rest.
 fn back_up<D: Disk, E: Progress, K: AllocGlobal + Desk<Disk = D>>(
     desk: &mut K,
-    file: &String,
-    copy: &String,
-    keep: Option<u32>,
+    asked: &AskedBackup,
     teller: &mut E,
 ) -> Result<NamedCopy, Unbacked>
-    requires { keep ≢ Some 0 }
-    ensures files { SparesCopies (string_bytes file.now) (string_bytes copy.now) keep
-        (K.deeds desk.old) (K.deeds desk.new) }
-    ensures backs_up { IfOk result (λ named. let file = string_bytes file.now in
-        (done : BacksUp D.Disk file (string_bytes copy.now) keep
+    requires { asked.now.keep ≢ Some 0 }
+    ensures files { SparesCopies (string_bytes asked.now.file.now)
+        (string_bytes asked.now.copy.now) asked.now.keep (K.deeds desk.old) (K.deeds desk.new) }
+    ensures backs_up { IfOk result (λ named. let file = string_bytes asked.now.file.now in
+        (done : BacksUp D.Disk file (string_bytes asked.now.copy.now) asked.now.keep
         (K.deeds desk.old) (K.deeds desk.new)) × (done.number ≡ named.number)) }
     ensures named { IfOk result (λ named. string_bytes named.path
-        ≡ numbered_copy (string_bytes copy.now) named.number) }
+        ≡ numbered_copy (string_bytes asked.now.copy.now) named.number) }
 {
-    match bring_to_rest(desk, file) {
-        Ok(()) => match find_name(desk, file, copy) {
-            Ok(named) => match copy_as(desk, file, copy, keep, &named, teller) {
+    match bring_to_rest(desk, asked.file) {
+        Ok(()) => match find_name(desk, asked.file, asked.copy) {
+            Ok(named) => match copy_as(desk, asked, &named, teller) {
                 Ok(()) => Ok(named),
                 Err(why) => Err(why),
             },
@@ -82,24 +92,22 @@ fn back_up<D: Disk, E: Progress, K: AllocGlobal + Desk<Disk = D>>(
 // Copies FILE to the file that was found, and goes on.
 fn copy_as<D: Disk, E: Progress, K: AllocGlobal + Desk<Disk = D>>(
     desk: &mut K,
-    file: &String,
-    copy: &String,
-    keep: Option<u32>,
+    asked: &AskedBackup,
     named: &NamedCopy,
     teller: &mut E,
 ) -> Result<(), Unbacked>
-    requires { keep ≢ Some 0 }
-    ensures spares { let file = string_bytes file.now in
+    requires { asked.now.keep ≢ Some 0 }
+    ensures spares { let file = string_bytes asked.now.file.now in
         SparesCopy file (string_bytes named.now.path)
-        (ThinsBy file (string_bytes copy.now) named.now.number keep)
+        (ThinsBy file (string_bytes asked.now.copy.now) named.now.number asked.now.keep)
         (K.deeds desk.old) (K.deeds desk.new) }
-    ensures copies { let file = string_bytes file.now in
+    ensures copies { let file = string_bytes asked.now.file.now in
         OnOk result (CopiesWhole D.Disk file (string_bytes named.now.path)
-        (ThinsBy file (string_bytes copy.now) named.now.number keep)
+        (ThinsBy file (string_bytes asked.now.copy.now) named.now.number asked.now.keep)
         (K.deeds desk.old) (K.deeds desk.new)) }
 {
-    match copy_file(desk, file, &named.path, teller) {
-        Ok(copied) => sum_copy(desk, file, copy, keep, named, &copied.sum),
+    match copy_file(desk, asked.file, &named.path, teller) {
+        Ok(copied) => sum_copy(desk, asked, named, &copied.sum),
         Err(why) => Err(why),
     }
 }
@@ -107,24 +115,22 @@ fn copy_as<D: Disk, E: Progress, K: AllocGlobal + Desk<Disk = D>>(
 // Writes the sum of a copy beside it, and then takes old copies away.
 fn sum_copy<K: AllocGlobal + Desk>(
     desk: &mut K,
-    file: &String,
-    copy: &String,
-    keep: Option<u32>,
+    asked: &AskedBackup,
     named: &NamedCopy,
     sum: &[u8; 32],
 ) -> Result<(), Unbacked>
-    requires { keep ≢ Some 0 }
-    ensures spares { let file = string_bytes file.now in
+    requires { asked.now.keep ≢ Some 0 }
+    ensures spares { let file = string_bytes asked.now.file.now in
         SparesSum file (string_bytes named.now.path)
-        (ThinsBy file (string_bytes copy.now) named.now.number keep)
+        (ThinsBy file (string_bytes asked.now.copy.now) named.now.number asked.now.keep)
         (K.deeds desk.old) (K.deeds desk.new) }
-    ensures sums { let file = string_bytes file.now in
+    ensures sums { let file = string_bytes asked.now.file.now in
         OnOk result (SumsWhole file (string_bytes named.now.path) sum.now
-        (ThinsBy file (string_bytes copy.now) named.now.number keep)
+        (ThinsBy file (string_bytes asked.now.copy.now) named.now.number asked.now.keep)
         (K.deeds desk.old) (K.deeds desk.new)) }
 {
-    match write_sum(desk, file, &named.path, sum) {
-        Ok(()) => thin_by(desk, file, copy, keep, named.number),
+    match write_sum(desk, asked.file, &named.path, sum) {
+        Ok(()) => thin_by(desk, asked, named.number),
         Err(why) => Err(why),
     }
 }
@@ -132,17 +138,23 @@ fn sum_copy<K: AllocGlobal + Desk>(
 // Takes old copies away, where it is told how many are to stay.
 fn thin_by<K: AllocGlobal + Desk>(
     desk: &mut K,
-    file: &String,
-    copy: &String,
-    keep: Option<u32>,
+    asked: &AskedBackup,
     number: u32,
 ) -> Result<(), Unbacked>
-    requires { keep ≢ Some 0 }
-    ensures { ThinsBy (string_bytes file.now) (string_bytes copy.now) number keep
-        (K.deeds desk.old) (K.deeds desk.new) }
+    requires { asked.now.keep ≢ Some 0 }
+    ensures { ThinsBy (string_bytes asked.now.file.now) (string_bytes asked.now.copy.now) number
+        asked.now.keep (K.deeds desk.old) (K.deeds desk.new) }
 {
-    match keep {
-        Some(keep) => thin_out(desk, file, copy, number, keep),
+    match asked.keep {
+        Some(keep) => {
+            let thinning = AskedThinning {
+                file: asked.file,
+                copy: asked.copy,
+                newest: number,
+                keep,
+            };
+            thin_out(desk, &thinning)
+        }
         None => Ok(()),
     }
 }
@@ -150,22 +162,21 @@ fn thin_by<K: AllocGlobal + Desk>(
 // Prints which name the copy got, where that is not COPY.
 fn tell_name<C: Console, E: Write>(
     alloc: Global,
-    console: &mut C,
-    errors: &mut E,
+    standard: &mut StandardStreams<C, E>,
     named: &NamedCopy,
 ) -> u8
     ensures { (copy : List ℕ) → string_bytes named.now.path ≡ numbered_copy copy named.now.number
         → TellsCopyName copy named.now.number
-        (streams_in C.Console console.old console.new) result }
+        (streams_in C.Console standard.old.console standard.new.console) result }
 {
     if named.number == 0 {
         return DONE;
     }
     match name_line(alloc, &named.path) {
-        Ok(line) => print(console, errors, line.as_bytes()),
+        Ok(line) => print(standard, line.as_bytes()),
         Err(_) => {
             say(
-                errors,
+                &mut standard.errors,
                 named.path.as_str(),
                 "the copy is made, and there is no memory to say more",
             );

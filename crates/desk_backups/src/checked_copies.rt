@@ -9,7 +9,7 @@ ghost use Rattle.desk_backups.specs.Inside.Checking.{ChecksDisk};
 
 use crate::backup_reasons::{Unchecked, say_unchecked};
 use desk_copies::{Uncopied, compare_sum, sum_of_disk};
-use desk_scenes::{Progress, print_counts};
+use desk_scenes::{Progress, StandardStreams, print_counts};
 use std::alloc::Global;
 use std::io::Write;
 use tune_archive::{Archive, Counts};
@@ -24,20 +24,19 @@ use tune_scripts::Console;
 pub fn check_copy<C: Console, E: Write + Progress, D: Disk, K: AllocGlobal + Desk<Disk = D>>(
     desk: &mut K,
     copy: &String,
-    console: &mut C,
-    errors: &mut E,
+    standard: &mut StandardStreams<C, E>,
 ) -> u8
     ensures files { IsQuiet (K.deeds desk.old) (K.deeds desk.new) }
     ensures tells { TellsCopy D.Disk (string_bytes copy.now) (record {
-      streams = streams_in C.Console console.old console.new;
+      streams = streams_in C.Console standard.old.console standard.new.console;
       was = K.deeds desk.old;
       now = K.deeds desk.new;
       status = result;
     }) }
 {
-    match check_file(desk, copy, errors) {
-        Ok(counts) => print_counts(desk.alloc(), console, errors, counts),
-        Err(why) => say_unchecked(errors, copy.as_str(), &why),
+    match check_file(desk, copy, &mut standard.errors) {
+        Ok(counts) => print_counts(desk.alloc(), standard, counts),
+        Err(why) => say_unchecked(&mut standard.errors, copy.as_str(), &why),
     }
 }
 

@@ -3,7 +3,7 @@ ghost use Rattle.std.specs.Prelude.{◌≡◌, ◌≤◌, ◌⊎◌, List, ℕ, 
 ghost use Rattle.tune_desk.specs.DeskDeeds.{DeskDeed};
 ghost use Rattle.desk_copies.specs.SumFiles.{sum_path};
 ghost use Rattle.desk_backups.specs.CopyNames.{numbered_copy};
-ghost use Rattle.desk_backups.specs.OldCopies.{Thinning, ThinsOut};
+ghost use Rattle.desk_backups.specs.OldCopies.{Thinning, ThinsOut, thinning_by};
 ghost use Rattle.desk_backups.specs.Inside.Thinned.{IsThinned, IsOldCopy, ThinsOn};
 
 use crate::backup_reasons::Unbacked;
@@ -22,25 +22,27 @@ pub(crate) struct Walked {
     pub(crate) found: u32,
 }
 
+/// What is asked for: that of COPY and each COPY.N the newest stay, so many of them; the one of the
+/// number `newest` was just made, and is the newest. FILE is the archive.
+#[derive(Clone, Copy)]
+pub(crate) struct AskedThinning<'a> {
+    pub(crate) file: &'a String,
+    pub(crate) copy: &'a String,
+    pub(crate) newest: u32,
+    pub(crate) keep: u32,
+}
+
 /// Takes old copies away, so that of COPY and each COPY.N the newest stay, so many of them; the one
 /// of this number was just made, and is the newest.
 pub(crate) fn thin_out<K: AllocGlobal + Desk>(
     desk: &mut K,
-    file: &String,
-    copy: &String,
-    newest: u32,
-    keep: u32,
+    asked: &AskedThinning,
 ) -> Result<(), Unbacked>
-    requires { 1 ≤ keep }
-    ensures { ThinsOut (record {
-      file = string_bytes file.now;
-      copy = string_bytes copy.now;
-      newest = newest;
-      keep = keep;
-    }) (K.deeds desk.old) (K.deeds desk.new) }
+    requires { 1 ≤ asked.now.keep }
+    ensures { ThinsOut (thinning_by asked.now) (K.deeds desk.old) (K.deeds desk.new) }
 {
-    match numbers_there(desk, copy) {
-        Ok(numbers) => thin_each(desk, file, copy, keep, newest, numbers.as_slice()),
+    match numbers_there(desk, asked.copy) {
+        Ok(numbers) => thin_each(desk, asked, numbers.as_slice()),
         Err(why) => Err(why),
     }
 }
@@ -48,28 +50,21 @@ pub(crate) fn thin_out<K: AllocGlobal + Desk>(
 // Walks the copies of these numbers, the greatest first, and then COPY.
 fn thin_each<K: AllocGlobal + Desk>(
     desk: &mut K,
-    file: &String,
-    copy: &String,
-    keep: u32,
-    newest: u32,
+    asked: &AskedThinning,
     numbers: &[u32],
 ) -> Result<(), Unbacked>
-    requires { 1 ≤ keep }
-    ensures { (was : List (DeskDeed K.Disk)) → let thinning : Thinning = record {
-      file = string_bytes file.now;
-      copy = string_bytes copy.now;
-      newest = newest;
-      keep = keep;
-    } in ThinsOut thinning was (K.deeds desk.old) → ThinsOut thinning was (K.deeds desk.new) }
+    requires { 1 ≤ asked.now.keep }
+    ensures { (was : List (DeskDeed K.Disk)) → ThinsOut (thinning_by asked.now) was
+        (K.deeds desk.old) → ThinsOut (thinning_by asked.now) was (K.deeds desk.new) }
 {
     let mut walked = Walked {
-        last: newest,
+        last: asked.newest,
         found: 1,
     };
     for number in numbers.iter().rev() {
-        walked = thin_at(desk, file, copy, keep, *number, walked)?;
+        walked = thin_at(desk, asked, *number, walked)?;
     }
-    match thin_at(desk, file, copy, keep, 0, walked) {
+    match thin_at(desk, asked, 0, walked) {
         Ok(_) => Ok(()),
         Err(why) => Err(why),
     }
@@ -78,37 +73,30 @@ fn thin_each<K: AllocGlobal + Desk>(
 // Looks at COPY of this number, and takes it away where it is an old one.
 fn thin_at<K: AllocGlobal + Desk>(
     desk: &mut K,
-    file: &String,
-    copy: &String,
-    keep: u32,
+    asked: &AskedThinning,
     number: u32,
     walked: Walked,
 ) -> Result<Walked, Unbacked>
-    requires { walked.found ≤ keep }
-    ensures found { IfOk result (λ next. next.found ≤ keep) }
-    ensures thins { (newest : ℕ) (was : List (DeskDeed K.Disk)) → let thinning : Thinning = record {
-      file = string_bytes file.now;
-      copy = string_bytes copy.now;
-      newest = newest;
-      keep = keep;
-    } in IsThinned thinning walked was (K.deeds desk.old)
-        → ThinsOn thinning result was (K.deeds desk.new) }
+    requires { walked.found ≤ asked.now.keep }
+    ensures found { IfOk result (λ next. next.found ≤ asked.now.keep) }
+    ensures thins { (was : List (DeskDeed K.Disk)) → IsThinned (thinning_by asked.now) walked was
+        (K.deeds desk.old) → ThinsOn (thinning_by asked.now) result was (K.deeds desk.new) }
 {
     if number >= walked.last {
         return Ok(walked);
     }
-    let Ok(path) = numbered(desk.alloc(), copy, number) else {
+    let Ok(path) = numbered(desk.alloc(), asked.copy, number) else {
         return Err(Unbacked::OutOfMemory);
     };
     match desk.begins(&path, ARCHIVE_HEAD) {
         Ok(true) => {
-            if walked.found < keep {
+            if walked.found < asked.keep {
                 Ok(Walked {
                     last: number,
                     found: walked.found + 1,
                 })
             } else {
-                take_away(desk, file, &path)?;
+                take_away(desk, asked.file, &path)?;
                 Ok(Walked {
                     last: number,
                     found: walked.found,

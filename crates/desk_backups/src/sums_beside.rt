@@ -9,7 +9,7 @@ use desk_copies::sum_path;
 use hex::encode;
 use std::alloc::{AllocError, Global};
 use std::path::Path;
-use tune_desk::{Desk, write_result};
+use tune_desk::{Desk, Destination, write_result};
 
 /// Writes the sum of a copy beside it.
 pub(crate) fn write_sum<K: AllocGlobal + Desk>(
@@ -30,7 +30,12 @@ pub(crate) fn write_sum<K: AllocGlobal + Desk>(
     let Ok(line) = sum_line(desk.alloc(), path, sum) else {
         return Err(Unbacked::OutOfMemory);
     };
-    match write_result(desk.alloc(), desk, file, &beside, false, line.as_bytes()) {
+    let to = Destination {
+        file,
+        out: &beside,
+        force: false,
+    };
+    match write_result(desk.alloc(), desk, &to, line.as_bytes()) {
         Ok(()) => Ok(()),
         Err(fault) => Err(Unbacked::Unsummed(fault)),
     }

@@ -38,6 +38,7 @@ use Rattle.desk_books.specs.Givens.{Given, ReadsGivenBook, given_of}
 use Rattle.desk_books.specs.KnownSums.{KnowsTexts}
 use Rattle.desk_books.specs.TriedBooks.{TriesFound}
 use Rattle.desk_books.specs.declared.taken_books.Course.{Course}
+use Rattle.desk_books.specs.declared.taken_books.Intake.{Intake}
 
 -- How far it has come: what was done with files, the store that takes books in, whether an entry
 -- was kept, and whether one may stand whose tunes did not come.
@@ -48,6 +49,9 @@ pub record Reached (D S : Type 0) : Type 0 where
 
 abbrev pub reached_at : {D S : Type 0} → List (DeskDeed D) → S → Course → Reached D S
 reached_at deeds store course = record { deeds = deeds; store = store; course = course }
+
+abbrev pub reached_by : {D S : Type 0} → List (DeskDeed D) → Intake S → Reached D S
+reached_by deeds intake = reached_at deeds intake.store intake.course
 
 -- A store from its opening to its closing, and what was done with files meanwhile.
 pub record Around (D S : Type 0) : Type 0 where

@@ -12,10 +12,11 @@ ghost use Rattle.tune_desk.specs.Results.{SparesFiles, result_places};
 use crate::asked_texts::known_texts;
 use crate::found_books::find_books;
 use crate::requests::Request;
-use crate::taken_books::{Course, take_books};
+use crate::taken_books::{Course, Intake, take_books};
 use crate::tried_books::try_books;
+use chosen_books::KnownTexts;
 use desk_scenes::{
-    Progress, REFUSED, Unanswered, open_once, read_input, say, say_unanswered,
+    Progress, REFUSED, StandardStreams, Unanswered, open_once, read_input, say, say_unanswered,
     say_unopened_to_change,
 };
 use desk_terms::Adding;
@@ -34,16 +35,15 @@ pub fn add<C: Console, E: Write + Progress, D: Disk, K: AllocGlobal + Desk<Disk 
     file: &String,
     books: &[String],
     how: &Adding,
-    console: &mut C,
-    errors: &mut E,
+    standard: &mut StandardStreams<C, E>,
 ) -> u8
     ensures files { SparesFiles (result_places (string_bytes file.now) None false)
         (K.deeds desk.old) (K.deeds desk.new) }
     ensures adds { Adds D.Disk (string_bytes file.now) how.now
         (K.deeds desk.old) (K.deeds desk.new) result }
 {
-    match find_books(desk, file, books, errors) {
-        Ok(found) => add_found(desk, file, found.as_slice(), how, console, errors),
+    match find_books(desk, file, books, &mut standard.errors) {
+        Ok(found) => add_found(desk, file, found.as_slice(), how, standard),
         Err(status) => status,
     }
 }
@@ -53,25 +53,28 @@ fn add_found<C: Console, E: Write + Progress, D: Disk, K: AllocGlobal + Desk<Dis
     file: &String,
     found: &[String],
     how: &Adding,
-    console: &mut C,
-    errors: &mut E,
+    standard: &mut StandardStreams<C, E>,
 ) -> u8
     ensures files { SparesFiles (result_places (string_bytes file.now) None false)
         (K.deeds desk.old) (K.deeds desk.new) }
     ensures adds { Adds D.Disk (string_bytes file.now) how.now
         (K.deeds desk.old) (K.deeds desk.new) result }
 {
-    match input_of(desk.alloc(), found, console) {
+    match input_of(desk.alloc(), found, &mut standard.console) {
         Some(input) => {
             let request = Request {
                 file,
                 input: input.as_slice(),
                 how,
             };
-            add_given(desk, &request, found, console, errors)
+            add_given(desk, &request, found, standard)
         }
         None => {
-            say(errors, "standard input", "it could not be read to its end");
+            say(
+                &mut standard.errors,
+                "standard input",
+                "it could not be read to its end",
+            );
             REFUSED
         }
     }
@@ -91,8 +94,7 @@ fn add_given<C: Console, E: Write + Progress, D: Disk, K: AllocGlobal + Desk<Dis
     desk: &mut K,
     request: &Request,
     found: &[String],
-    console: &mut C,
-    errors: &mut E,
+    standard: &mut StandardStreams<C, E>,
 ) -> u8
     ensures files { SparesFiles (result_places (string_bytes request.now.file.now) None false)
         (K.deeds desk.old) (K.deeds desk.new) }
@@ -100,9 +102,9 @@ fn add_given<C: Console, E: Write + Progress, D: Disk, K: AllocGlobal + Desk<Dis
         (K.deeds desk.old) (K.deeds desk.new) result }
 {
     if request.how.dry {
-        try_books(desk, request, found, console, errors)
+        try_books(desk, request, found, standard)
     } else {
-        take_found(desk, request, found, console, errors)
+        take_found(desk, request, found, standard)
     }
 }
 
@@ -110,8 +112,7 @@ fn take_found<C: Console, E: Write + Progress, D: Disk, K: AllocGlobal + Desk<Di
     desk: &mut K,
     request: &Request,
     found: &[String],
-    console: &mut C,
-    errors: &mut E,
+    standard: &mut StandardStreams<C, E>,
 ) -> u8
     ensures files { SparesFiles (result_places (string_bytes request.now.file.now) None false)
         (K.deeds desk.old) (K.deeds desk.new) }
@@ -122,11 +123,16 @@ fn take_found<C: Console, E: Write + Progress, D: Disk, K: AllocGlobal + Desk<Di
         Ok(mut archive) => {
             // For the proof.
             archive.law_of_labels();
-            let status = take_all(desk, request, found, &mut archive, console, errors);
-            desk.close(request.file, archive.into_disk());
+            let mut intake = Intake {
+                store: archive,
+                course: Course::new(KnownTexts::new(desk.alloc())),
+            };
+            let status = take_all(desk, request, found, &mut intake, standard);
+            let Intake { store, course: _ } = intake;
+            desk.close(request.file, store.into_disk());
             status
         }
-        Err(why) => say_unopened_to_change(errors, request.file.as_str(), why),
+        Err(why) => say_unopened_to_change(&mut standard.errors, request.file.as_str(), why),
     }
 }
 
@@ -134,31 +140,30 @@ fn take_all<C: Console, E: Write + Progress, D: Disk, K: AllocGlobal + Desk<Disk
     desk: &mut K,
     request: &Request,
     found: &[String],
-    archive: &mut Archive<D>,
-    console: &mut C,
-    errors: &mut E,
+    intake: &mut Intake<Archive<D>>,
+    standard: &mut StandardStreams<C, E>,
 ) -> u8
     ensures files { SparesFiles (result_places (string_bytes request.now.file.now) None false)
         (K.deeds desk.old) (K.deeds desk.new) }
-    ensures takes { archive.old.closed ≡ false
-        → (HonestAt D.honest archive.old.pages.disk
-        → labels_in archive.old.contents.rows.items
-        ≡ labels_of (state_of D.state archive.old).tunes)
+    ensures takes { intake.old.store.closed ≡ false
+        → (HonestAt D.honest intake.old.store.pages.disk
+        → labels_in intake.old.store.contents.rows.items
+        ≡ labels_of (state_of D.state intake.old.store).tunes)
         → TakesAll (store_on D.Disk) (given_by request.now) (map string_bytes found.now) (record {
-          start = archive.old;
-          finish = archive.new;
+          start = intake.old.store;
+          finish = intake.new.store;
           was = K.deeds desk.old;
           now = K.deeds desk.new;
         }) result }
 {
-    match known_texts(desk.alloc(), archive, request.how.only_new) {
+    match known_texts(desk.alloc(), &mut intake.store, request.how.only_new) {
         Ok(known) => {
-            let mut course = Course::new(known);
-            take_books(desk, request, found, archive, &mut course, console, errors)
+            intake.course = Course::new(known);
+            take_books(desk, request, found, intake, standard)
         }
         Err(refusal) => {
             let why = Unanswered::Refused(refusal);
-            say_unanswered(errors, request.file.as_str(), "add", &why)
+            say_unanswered(&mut standard.errors, request.file.as_str(), "add", &why)
         }
     }
 }

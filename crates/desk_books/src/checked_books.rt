@@ -13,7 +13,7 @@ ghost use Rattle.desk_scenes.specs.Scenes.{IsQuiet};
 
 use crate::lost_lines::say_dropped_lines;
 use abc_fields::{BookFault, ByteText, TuneFault};
-use desk_scenes::{BAD_WORDS, DONE, REFUSED, desk_reason, print, read_input, say};
+use desk_scenes::{BAD_WORDS, DONE, REFUSED, StandardStreams, desk_reason, print, read_input, say};
 use std::alloc::{AllocError, Global};
 use std::io::Write;
 use told_books::{ToldBook, told_book};
@@ -26,17 +26,16 @@ use tune_store::Layout;
 pub fn check_books<C: Console, E: Write, K: AllocGlobal + Desk>(
     desk: &mut K,
     paths: &[String],
-    console: &mut C,
-    errors: &mut E,
+    standard: &mut StandardStreams<C, E>,
 ) -> u8
     ensures quiet { IsQuiet (K.deeds desk.old) (K.deeds desk.new) }
     ensures told { TellsPaths paths.now
-        (stage_of C.Console console.old (K.deeds desk.old))
-        (stage_of C.Console console.new (K.deeds desk.new)) result }
+        (stage_of C.Console standard.old.console (K.deeds desk.old))
+        (stage_of C.Console standard.new.console (K.deeds desk.new)) result }
 {
     let mut worst = DONE;
     for path in paths {
-        let status = check_path(desk, path, console, errors);
+        let status = check_path(desk, path, standard);
         worst = worst.max(status);
     }
     worst
@@ -45,42 +44,44 @@ pub fn check_books<C: Console, E: Write, K: AllocGlobal + Desk>(
 fn check_path<C: Console, E: Write, K: AllocGlobal + Desk>(
     desk: &mut K,
     path: &String,
-    console: &mut C,
-    errors: &mut E,
+    standard: &mut StandardStreams<C, E>,
 ) -> u8
     ensures quiet { IsQuiet (K.deeds desk.old) (K.deeds desk.new) }
     ensures told { TellsPath (string_bytes path.now)
-        (stage_of C.Console console.old (K.deeds desk.old))
-        (stage_of C.Console console.new (K.deeds desk.new)) result }
+        (stage_of C.Console standard.old.console (K.deeds desk.old))
+        (stage_of C.Console standard.new.console (K.deeds desk.new)) result }
 {
     if path.as_str() == "-" {
-        return check_input(desk, console, errors);
+        return check_input(desk, standard);
     }
     match desk.look(path) {
-        Ok(Standing::Folder) => check_folder(desk, path, console, errors),
+        Ok(Standing::Folder) => check_folder(desk, path, standard),
         Ok(Standing::Nothing) => {
-            say(errors, path.as_str(), "there is no such file");
+            say(&mut standard.errors, path.as_str(), "there is no such file");
             BAD_WORDS
         }
-        Ok(Standing::File | Standing::Other) => check_file(desk, path, console, errors),
-        Err(fault) => unread(errors, path.as_str(), fault),
+        Ok(Standing::File | Standing::Other) => check_file(desk, path, standard),
+        Err(fault) => unread(&mut standard.errors, path.as_str(), fault),
     }
 }
 
 fn check_input<C: Console, E: Write, K: AllocGlobal + Desk>(
     desk: &mut K,
-    console: &mut C,
-    errors: &mut E,
+    standard: &mut StandardStreams<C, E>,
 ) -> u8
     ensures same { K.deeds desk.new ≡ K.deeds desk.old }
     ensures told { TellsInput
-        (stage_of C.Console console.old (K.deeds desk.old))
-        (stage_of C.Console console.new (K.deeds desk.new)) result }
+        (stage_of C.Console standard.old.console (K.deeds desk.old))
+        (stage_of C.Console standard.new.console (K.deeds desk.new)) result }
 {
-    match read_input(desk.alloc(), console) {
-        Some(bytes) => check_book(desk.alloc(), "-", bytes.as_slice(), console, errors),
+    match read_input(desk.alloc(), &mut standard.console) {
+        Some(bytes) => check_book(desk.alloc(), "-", bytes.as_slice(), standard),
         None => {
-            say(errors, "standard input", "it could not be read to its end");
+            say(
+                &mut standard.errors,
+                "standard input",
+                "it could not be read to its end",
+            );
             REFUSED
         }
     }
@@ -97,23 +98,26 @@ fn unread<E: Write>(errors: &mut E, path: &str, fault: DeskFault) -> u8
 fn check_folder<C: Console, E: Write, K: AllocGlobal + Desk>(
     desk: &mut K,
     folder: &String,
-    console: &mut C,
-    errors: &mut E,
+    standard: &mut StandardStreams<C, E>,
 ) -> u8
     ensures quiet { IsQuiet (K.deeds desk.old) (K.deeds desk.new) }
     ensures told { TellsFolder (string_bytes folder.now)
-        (stage_of C.Console console.old (K.deeds desk.old))
-        (stage_of C.Console console.new (K.deeds desk.new)) result }
+        (stage_of C.Console standard.old.console (K.deeds desk.old))
+        (stage_of C.Console standard.new.console (K.deeds desk.new)) result }
 {
     let names = match desk.names(desk.alloc(), folder) {
         Ok(names) => names,
-        Err(fault) => return unread(errors, folder.as_str(), fault),
+        Err(fault) => return unread(&mut standard.errors, folder.as_str(), fault),
     };
     if !has_book(names.as_slice()) {
-        say(errors, folder.as_str(), "there is no .abc file");
+        say(
+            &mut standard.errors,
+            folder.as_str(),
+            "there is no .abc file",
+        );
         return BAD_WORDS;
     }
-    check_names(desk, folder, names.as_slice(), console, errors)
+    check_names(desk, folder, names.as_slice(), standard)
 }
 
 // Whether one of these is the name of a book.
@@ -133,18 +137,17 @@ fn check_names<C: Console, E: Write, K: AllocGlobal + Desk>(
     desk: &mut K,
     folder: &String,
     names: &[String],
-    console: &mut C,
-    errors: &mut E,
+    standard: &mut StandardStreams<C, E>,
 ) -> u8
     ensures quiet { IsQuiet (K.deeds desk.old) (K.deeds desk.new) }
     ensures told { EachInTurn
         (λ name. TellsBookName (string_bytes folder.now) (string_bytes name)) names.now
-        (stage_of C.Console console.old (K.deeds desk.old))
-        (stage_of C.Console console.new (K.deeds desk.new)) result }
+        (stage_of C.Console standard.old.console (K.deeds desk.old))
+        (stage_of C.Console standard.new.console (K.deeds desk.new)) result }
 {
     let mut worst = DONE;
     for name in names {
-        let status = check_name(desk, folder, name, console, errors);
+        let status = check_name(desk, folder, name, standard);
         worst = worst.max(status);
     }
     worst
@@ -154,35 +157,37 @@ fn check_name<C: Console, E: Write, K: AllocGlobal + Desk>(
     desk: &mut K,
     folder: &String,
     name: &String,
-    console: &mut C,
-    errors: &mut E,
+    standard: &mut StandardStreams<C, E>,
 ) -> u8
     ensures quiet { IsQuiet (K.deeds desk.old) (K.deeds desk.new) }
     ensures told { TellsBookName (string_bytes folder.now) (string_bytes name.now)
-        (stage_of C.Console console.old (K.deeds desk.old))
-        (stage_of C.Console console.new (K.deeds desk.new)) result }
+        (stage_of C.Console standard.old.console (K.deeds desk.old))
+        (stage_of C.Console standard.new.console (K.deeds desk.new)) result }
 {
     if !is_book_name(name.as_str()) {
         return DONE;
     }
-    check_one_of(desk, folder, name, console, errors)
+    check_one_of(desk, folder, name, standard)
 }
 
 fn check_one_of<C: Console, E: Write, K: AllocGlobal + Desk>(
     desk: &mut K,
     folder: &String,
     name: &String,
-    console: &mut C,
-    errors: &mut E,
+    standard: &mut StandardStreams<C, E>,
 ) -> u8
     ensures quiet { IsQuiet (K.deeds desk.old) (K.deeds desk.new) }
     ensures told { TellsOneOf (string_bytes folder.now) (string_bytes name.now)
-        (stage_of C.Console console.old (K.deeds desk.old))
-        (stage_of C.Console console.new (K.deeds desk.new)) result }
+        (stage_of C.Console standard.old.console (K.deeds desk.old))
+        (stage_of C.Console standard.new.console (K.deeds desk.new)) result }
 {
     match format!(in desk.alloc(); "{folder}/{name}") {
-        Ok(path) => check_file(desk, &path, console, errors),
-        Err(_) => unread(errors, folder.as_str(), DeskFault::OutOfMemory),
+        Ok(path) => check_file(desk, &path, standard),
+        Err(_) => unread(
+            &mut standard.errors,
+            folder.as_str(),
+            DeskFault::OutOfMemory,
+        ),
     }
 }
 
@@ -196,23 +201,16 @@ fn is_book_name(name: &str) -> bool
 fn check_file<C: Console, E: Write, K: AllocGlobal + Desk>(
     desk: &mut K,
     path: &String,
-    console: &mut C,
-    errors: &mut E,
+    standard: &mut StandardStreams<C, E>,
 ) -> u8
     ensures quiet { IsQuiet (K.deeds desk.old) (K.deeds desk.new) }
     ensures told { TellsFile (string_bytes path.now)
-        (stage_of C.Console console.old (K.deeds desk.old))
-        (stage_of C.Console console.new (K.deeds desk.new)) result }
+        (stage_of C.Console standard.old.console (K.deeds desk.old))
+        (stage_of C.Console standard.new.console (K.deeds desk.new)) result }
 {
     match desk.read(desk.alloc(), path) {
-        Ok(book) => check_book(
-            desk.alloc(),
-            path.as_str(),
-            book.as_slice(),
-            console,
-            errors,
-        ),
-        Err(fault) => unread(errors, path.as_str(), fault),
+        Ok(book) => check_book(desk.alloc(), path.as_str(), book.as_slice(), standard),
+        Err(fault) => unread(&mut standard.errors, path.as_str(), fault),
     }
 }
 
@@ -220,20 +218,20 @@ fn check_book<C: Console, E: Write>(
     alloc: Global,
     path: &str,
     book: &[u8],
-    console: &mut C,
-    errors: &mut E,
+    standard: &mut StandardStreams<C, E>,
 ) -> u8
-    ensures { TellsBook path.now book.now (streams_in C.Console console.old console.new) result }
+    ensures { TellsBook path.now book.now
+        (streams_in C.Console standard.old.console standard.new.console) result }
 {
     match told_book(alloc, book, Layout::Two.longest_text()) {
         Ok(told) => {
-            let status = say_told(errors, path, &told);
+            let status = say_told(&mut standard.errors, path, &told);
             match summary(alloc, path, &told) {
-                Ok(line) => status.max(print(console, errors, line.as_slice())),
-                Err(_) => unread(errors, path, DeskFault::OutOfMemory),
+                Ok(line) => status.max(print(standard, line.as_slice())),
+                Err(_) => unread(&mut standard.errors, path, DeskFault::OutOfMemory),
             }
         }
-        Err(_) => unread(errors, path, DeskFault::OutOfMemory),
+        Err(_) => unread(&mut standard.errors, path, DeskFault::OutOfMemory),
     }
 }
 

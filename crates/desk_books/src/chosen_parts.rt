@@ -13,49 +13,50 @@ use std::io::Write;
 use told_books::told_book;
 use tune_store::{Layout, Refusal};
 
+/// A book that was read, at its path.
+#[derive(Drop)]
+pub(crate) struct ReadBook<'a> {
+    pub(crate) path: &'a str,
+    pub(crate) bytes: ByteText,
+}
+
 /// The parts of a book that are taken in, one after another, and what is to be told of them.
 #[derive(Drop)]
-pub(crate) struct Choice {
+pub(crate) struct Choice<'a> {
     pub(crate) parts: Vec<ByteText>,
-    pub(crate) tally: Tally,
+    pub(crate) tally: Tally<'a>,
 }
 
 /// Chooses what of a book is taken in, and tells what is left out. What is chosen is known from
 /// then on, where only new tunes are asked for.
-pub(crate) fn choose<E: Write>(
+pub(crate) fn choose<'a, E: Write>(
     alloc: Global,
     how: &Adding,
     layout: Layout,
-    path: &str,
-    book: ByteText,
+    book: ReadBook<'a>,
     known: &mut KnownTexts,
     errors: &mut E,
-) -> Result<Choice, Refusal>
+) -> Result<Choice<'a>, Refusal>
     ensures { MatchResult result
-        (λ choice. Chooses how.now layout book (record { was = known.old; now = known.new })
-        choice.parts.items)
-        (λ refusal. IsNotChosen how.now layout book refusal) }
+        (λ choice. Chooses how.now layout book.entry.bytes
+        (record { was = known.old; now = known.new }) choice.parts.items)
+        (λ refusal. IsNotChosen how.now layout book.entry.bytes refusal) }
 {
+    let ReadBook { path, bytes } = book;
     let longest = layout.longest_text();
-    let lost = lost_of(alloc, book.as_slice(), longest)?;
-    let shown = shown_of(alloc, how, &book)?;
+    let lost = lost_of(alloc, bytes.as_slice(), longest)?;
+    let shown = shown_of(alloc, how, &bytes)?;
     let Chosen {
         parts,
         tunes: _,
         bad,
         known: there,
         carried,
-    } = chosen_books(alloc, book, longest, *how, known)?;
+    } = chosen_books(alloc, bytes, longest, *how, known)?;
     say_left_out(errors, path, bad.as_slice());
-    say_lost_lines(
-        alloc,
-        errors,
-        path,
-        shown.as_slice(),
-        longest,
-        carried.lines,
-    );
-    let mut tally = Tally::of_parts(parts.len());
+    let told = told_book(alloc, shown.as_slice(), longest);
+    say_lost_lines(errors, path, told, carried.lines);
+    let mut tally = Tally::of_parts(path, parts.len());
     tally.there = there;
     tally.left_out = bad.len();
     tally.carried = carried;

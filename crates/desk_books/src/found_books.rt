@@ -22,15 +22,37 @@ pub(crate) fn find_books<E: Write, K: AllocGlobal + Desk>(
     let Ok(old_texts) = old_texts_of(desk.alloc(), file) else {
         return Err(short_of_memory(errors, file.as_str()));
     };
-    let mut books = Vec::new(desk.alloc());
+    let own = OwnFiles {
+        file,
+        old_texts: &old_texts,
+    };
+    let mut search = Search {
+        books: Vec::new(desk.alloc()),
+        pending: Vec::new(desk.alloc()),
+    };
     for path in paths {
-        find_path(desk, file, &old_texts, path, &mut books, errors)?;
+        find_path(desk, &own, path, &mut search, errors)?;
     }
+    let Search { books, pending: _ } = search;
     if books.is_empty() {
         say_bad(errors, "there is no .abc file");
         return Err(BAD_WORDS);
     }
     Ok(books)
+}
+
+// The files of an archive that are no books: it, and the book of its old texts.
+#[derive(Clone, Copy)]
+struct OwnFiles<'a> {
+    file: &'a String,
+    old_texts: &'a String,
+}
+
+// A search for books: those that were found, and what within a folder is still to be looked at.
+#[derive(Drop)]
+struct Search {
+    books: Vec<String>,
+    pending: Vec<String>,
 }
 
 fn old_texts_of(alloc: Global, file: &String) -> Result<String, AllocError> {
@@ -62,24 +84,21 @@ fn say_bad<E: Write>(errors: &mut E, reason: &str) {
 // Adds the books that a path leads to.
 fn find_path<E: Write, K: AllocGlobal + Desk>(
     desk: &mut K,
-    file: &String,
-    old_texts: &String,
+    own: &OwnFiles,
     path: &String,
-    books: &mut Vec<String>,
+    search: &mut Search,
     errors: &mut E,
 ) -> Result<(), u8>
     ensures quiet { IsQuiet (K.deeds desk.old) (K.deeds desk.new) }
     ensures refused { IfErr result (λ status. status ≢ 0) }
 {
     if path.as_str() == "-" {
-        return find_input(path, books, errors);
+        return find_input(path, &mut search.books, errors);
     }
     match desk.look(path) {
-        Ok(Standing::Folder) => find_folder(desk, file, old_texts, path, books, errors),
+        Ok(Standing::Folder) => find_folder(desk, own, path, search, errors),
         Ok(Standing::Nothing) => Err(missing(errors, path)),
-        Ok(Standing::File | Standing::Other) => {
-            find_file(desk, file, old_texts, path, books, errors)
-        }
+        Ok(Standing::File | Standing::Other) => find_file(desk, own, path, search, errors),
         Err(fault) => Err(unread(errors, path.as_str(), fault)),
     }
 }
@@ -131,16 +150,15 @@ enum Kinship {
 
 fn kinship_of<K: AllocGlobal + Desk>(
     desk: &mut K,
-    file: &String,
-    old_texts: &String,
+    own: &OwnFiles,
     path: &String,
 ) -> Result<Kinship, DeskFault>
     ensures { IsQuiet (K.deeds desk.old) (K.deeds desk.new) }
 {
-    if is_same(desk, path, file)? {
+    if is_same(desk, path, own.file)? {
         return Ok(Kinship::Archive);
     }
-    if is_same(desk, path, old_texts)? {
+    if is_same(desk, path, own.old_texts)? {
         return Ok(Kinship::OldTexts);
     }
     if desk.begins(path, b"\n% tunes-book ") == Ok(true) {
@@ -166,17 +184,16 @@ fn is_same<K: AllocGlobal + Desk>(
 // A file that was named: it has to be a book.
 fn find_file<E: Write, K: AllocGlobal + Desk>(
     desk: &mut K,
-    file: &String,
-    old_texts: &String,
+    own: &OwnFiles,
     path: &String,
-    books: &mut Vec<String>,
+    search: &mut Search,
     errors: &mut E,
 ) -> Result<(), u8>
     ensures quiet { IsQuiet (K.deeds desk.old) (K.deeds desk.new) }
     ensures refused { IfErr result (λ status. status ≢ 0) }
 {
-    match kinship_of(desk, file, old_texts, path) {
-        Ok(Kinship::Other) => add_book(path, books, errors),
+    match kinship_of(desk, own, path) {
+        Ok(Kinship::Other) => add_book(path, &mut search.books, errors),
         Ok(kinship) => Err(no_book(errors, path, kinship)),
         Err(fault) => Err(unread(errors, path.as_str(), fault)),
     }
@@ -200,22 +217,18 @@ fn no_book<E: Write>(errors: &mut E, path: &String, kinship: Kinship) -> u8
 // The books of a folder, and of the folders within it.
 fn find_folder<E: Write, K: AllocGlobal + Desk>(
     desk: &mut K,
-    file: &String,
-    old_texts: &String,
+    own: &OwnFiles,
     folder: &String,
-    books: &mut Vec<String>,
+    search: &mut Search,
     errors: &mut E,
 ) -> Result<(), u8>
     ensures quiet { IsQuiet (K.deeds desk.old) (K.deeds desk.new) }
     ensures refused { IfErr result (λ status. status ≢ 0) }
 {
-    let mut pending = Vec::new(desk.alloc());
-    put_names(desk, folder, &mut pending, errors)?;
+    put_names(desk, folder, &mut search.pending, errors)?;
     for _ in 0..u64::MAX {
-        match pending.pop() {
-            Some(path) => {
-                find_within(desk, file, old_texts, &path, &mut pending, books, errors)?;
-            }
+        match search.pending.pop() {
+            Some(path) => find_within(desk, own, &path, search, errors)?,
             None => return Ok(()),
         }
     }
@@ -261,23 +274,21 @@ fn put_paths(
 // there any more, no book is left out without a word.
 fn find_within<E: Write, K: AllocGlobal + Desk>(
     desk: &mut K,
-    file: &String,
-    old_texts: &String,
+    own: &OwnFiles,
     path: &String,
-    pending: &mut Vec<String>,
-    books: &mut Vec<String>,
+    search: &mut Search,
     errors: &mut E,
 ) -> Result<(), u8>
     ensures quiet { IsQuiet (K.deeds desk.old) (K.deeds desk.new) }
     ensures refused { IfErr result (λ status. status ≢ 0) }
 {
     match desk.look(path) {
-        Ok(Standing::Folder) => find_inner(desk, path, pending, errors),
+        Ok(Standing::Folder) => find_inner(desk, path, &mut search.pending, errors),
         Ok(Standing::File) => {
             if !is_book_name(path.as_str()) {
                 return Ok(());
             }
-            find_beside(desk, file, old_texts, path, books, errors)
+            find_beside(desk, own, path, search, errors)
         }
         Ok(Standing::Nothing) => Err(unread(errors, path.as_str(), DeskFault::Missing)),
         Ok(Standing::Other) => Ok(()),
@@ -320,17 +331,16 @@ fn is_book_name(name: &str) -> bool {
 // A file of a folder: it is left out where it is the archive, or has old texts.
 fn find_beside<E: Write, K: AllocGlobal + Desk>(
     desk: &mut K,
-    file: &String,
-    old_texts: &String,
+    own: &OwnFiles,
     path: &String,
-    books: &mut Vec<String>,
+    search: &mut Search,
     errors: &mut E,
 ) -> Result<(), u8>
     ensures quiet { IsQuiet (K.deeds desk.old) (K.deeds desk.new) }
     ensures refused { IfErr result (λ status. status ≢ 0) }
 {
-    match kinship_of(desk, file, old_texts, path) {
-        Ok(Kinship::Other) => add_book(path, books, errors),
+    match kinship_of(desk, own, path) {
+        Ok(Kinship::Other) => add_book(path, &mut search.books, errors),
         Ok(_) => Ok(()),
         Err(fault) => Err(unread(errors, path.as_str(), fault)),
     }

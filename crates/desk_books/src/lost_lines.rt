@@ -2,9 +2,9 @@
 use abc_fields::TuneFault;
 use chosen_books::LeftOut;
 use desk_scenes::say;
-use std::alloc::Global;
+use std::alloc::AllocError;
 use std::io::Write;
-use told_books::{DroppedLine, told_book};
+use told_books::{DroppedLine, ToldBook};
 
 /// Says which tunes of a book are left out, each by its place and its line, and why.
 pub(crate) fn say_left_out<E: Write>(errors: &mut E, path: &str, tunes: &[LeftOut]) {
@@ -25,14 +25,12 @@ pub(crate) fn say_left_out<E: Write>(errors: &mut E, path: &str, tunes: &[LeftOu
 /// Says which lines of a book go into no tune, each by its number: all of them but for the first
 /// `carried` that change how a sheet is engraved, which go into the tunes behind them.
 pub(crate) fn say_lost_lines<E: Write>(
-    alloc: Global,
     errors: &mut E,
     path: &str,
-    book: &[u8],
-    longest: usize,
+    told: Result<ToldBook, AllocError>,
     carried: usize,
 ) {
-    match told_book(alloc, book, longest) {
+    match told {
         Ok(told) => say_dropped_lines(errors, path, told.dropped.as_slice(), carried),
         Err(_) => say(
             errors,

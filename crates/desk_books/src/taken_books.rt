@@ -9,12 +9,12 @@ ghost use Rattle.tune_store.specs.declared.layout.Layout.{Layout};
 ghost use Rattle.tune_desk.specs.OldTexts.{GrowsNot};
 ghost use Rattle.tune_desk.specs.Results.{SparesFiles, result_places};
 ghost use Rattle.desk_books.specs.AddedBooks.{KeepsBook, TakesBook, TakesChosen, TakesParts};
-ghost use Rattle.desk_books.specs.AddedBooks.{TakesPath, first_course, reached_at};
+ghost use Rattle.desk_books.specs.AddedBooks.{TakesPath, first_course, reached_by};
 ghost use Rattle.desk_books.specs.Givens.{given_by, ReadsGivenBook};
 ghost use Rattle.desk_books.specs.Stages.{EachInTurn};
 
 use crate::added_entries::added_entry;
-use crate::chosen_parts::{Choice, choose};
+use crate::chosen_parts::{Choice, ReadBook, choose};
 use crate::requests::Request;
 use crate::stocks::{NewTunes, Stock};
 use crate::told_imports::{
@@ -23,7 +23,7 @@ use crate::told_imports::{
 };
 use abc_fields::ByteText;
 use chosen_books::KnownTexts;
-use desk_scenes::{DONE, Progress, REFUSED, keep_entry};
+use desk_scenes::{DONE, Progress, REFUSED, StandardStreams, keep_entry};
 use std::alloc::Global;
 use std::io::Write;
 use tune_desk::{Desk, DeskFault, OldTextsFault};
@@ -55,6 +55,13 @@ impl Course {
     }
 }
 
+/// A store that takes books in, and how far that has come.
+#[derive(Drop)]
+pub(crate) struct Intake<S> {
+    pub(crate) store: S,
+    pub(crate) course: Course,
+}
+
 /// Takes in the books of these paths, one after another, and gives the greatest status.
 pub(crate) fn take_books<
     C: Console,
@@ -65,25 +72,23 @@ pub(crate) fn take_books<
     desk: &mut K,
     request: &Request,
     paths: &[String],
-    store: &mut S,
-    course: &mut Course,
-    console: &mut C,
-    errors: &mut E,
+    intake: &mut Intake<S>,
+    standard: &mut StandardStreams<C, E>,
 ) -> u8
     ensures files { SparesFiles (result_places (string_bytes request.now.file.now) None false)
         (K.deeds desk.old) (K.deeds desk.new) }
     ensures takes { EachInTurn
         (λ path. TakesPath S.TuneStore (given_by request.now) (string_bytes path)) paths.now
-        (reached_at (K.deeds desk.old) store.old course.old)
-        (reached_at (K.deeds desk.new) store.new course.new) result }
+        (reached_by (K.deeds desk.old) intake.old)
+        (reached_by (K.deeds desk.new) intake.new) result }
 {
     let mut worst = DONE;
     let mut done = 0usize;
     for path in paths {
-        let status = take_path(desk, request, path, store, course, console, errors);
+        let status = take_path(desk, request, path, intake, standard);
         worst = worst.max(status);
         done = done.saturating_add(1);
-        tell_progress(errors, "books", done, paths.len());
+        tell_progress(&mut standard.errors, "books", done, paths.len());
     }
     worst
 }
@@ -92,23 +97,27 @@ fn take_path<C: Console, E: Write + Progress, S: TuneStore + Catalog, K: AllocGl
     desk: &mut K,
     request: &Request,
     path: &String,
-    store: &mut S,
-    course: &mut Course,
-    console: &mut C,
-    errors: &mut E,
+    intake: &mut Intake<S>,
+    standard: &mut StandardStreams<C, E>,
 ) -> u8
     ensures files { SparesFiles (result_places (string_bytes request.now.file.now) None false)
         (K.deeds desk.old) (K.deeds desk.new) }
     ensures takes { TakesPath S.TuneStore (given_by request.now) (string_bytes path.now)
-        (reached_at (K.deeds desk.old) store.old course.old)
-        (reached_at (K.deeds desk.new) store.new course.new) result }
+        (reached_by (K.deeds desk.old) intake.old)
+        (reached_by (K.deeds desk.new) intake.new) result }
 {
-    if course.failed {
-        return say_untried(errors, path.as_str());
+    if intake.course.failed {
+        return say_untried(&mut standard.errors, path.as_str());
     }
     match read_book(desk, request, path) {
-        Ok(book) => take_book(desk, request, path, book, store, course, console, errors),
-        Err(_) => say_unread(errors, path.as_str()),
+        Ok(bytes) => {
+            let book = ReadBook {
+                path: path.as_str(),
+                bytes,
+            };
+            take_book(desk, request, book, intake, standard)
+        }
+        Err(_) => say_unread(&mut standard.errors, path.as_str()),
     }
 }
 
@@ -140,33 +149,30 @@ fn copy_input(alloc: Global, input: &[u8]) -> Result<ByteText, DeskFault>
 fn take_book<C: Console, E: Write + Progress, S: TuneStore + Catalog, K: AllocGlobal + Desk>(
     desk: &mut K,
     request: &Request,
-    path: &String,
-    book: ByteText,
-    store: &mut S,
-    course: &mut Course,
-    console: &mut C,
-    errors: &mut E,
+    book: ReadBook,
+    intake: &mut Intake<S>,
+    standard: &mut StandardStreams<C, E>,
 ) -> u8
     ensures files { SparesFiles (result_places (string_bytes request.now.file.now) None false)
         (K.deeds desk.old) (K.deeds desk.new) }
-    ensures takes { TakesChosen S.TuneStore (given_by request.now) book
-        (reached_at (K.deeds desk.old) store.old course.old)
-        (reached_at (K.deeds desk.new) store.new course.new) result }
+    ensures takes { TakesChosen S.TuneStore (given_by request.now) book.entry.bytes
+        (reached_by (K.deeds desk.old) intake.old)
+        (reached_by (K.deeds desk.new) intake.new) result }
 {
+    let path = book.path;
     let alloc = desk.alloc();
-    let layout = store.layout();
-    let known = &mut course.known;
+    let layout = intake.store.layout();
+    let known = &mut intake.course.known;
     match choose(
         alloc,
         request.how,
         layout,
-        path.as_str(),
         book,
         known,
-        errors,
+        &mut standard.errors,
     ) {
-        Ok(choice) => { take_choice(desk, request, path, choice, store, course, console, errors) }
-        Err(refusal) => say_refused(errors, path.as_str(), &refusal),
+        Ok(choice) => { take_choice(desk, request, choice, intake, standard) }
+        Err(refusal) => say_refused(&mut standard.errors, path, &refusal),
     }
 }
 
@@ -174,46 +180,47 @@ fn take_book<C: Console, E: Write + Progress, S: TuneStore + Catalog, K: AllocGl
 fn take_choice<C: Console, E: Write + Progress, S: TuneStore + Catalog, K: AllocGlobal + Desk>(
     desk: &mut K,
     request: &Request,
-    path: &String,
     choice: Choice,
-    store: &mut S,
-    course: &mut Course,
-    console: &mut C,
-    errors: &mut E,
+    intake: &mut Intake<S>,
+    standard: &mut StandardStreams<C, E>,
 ) -> u8
     ensures files { SparesFiles (result_places (string_bytes request.now.file.now) None false)
         (K.deeds desk.old) (K.deeds desk.new) }
-    ensures takes { TakesParts S.TuneStore (string_bytes request.now.file.now) choice.parts.items
-        (reached_at (K.deeds desk.old) store.old course.old)
-        (reached_at (K.deeds desk.new) store.new course.new) result }
+    ensures takes { TakesParts S.TuneStore (string_bytes request.now.file.now)
+        choice.entry.parts.items
+        (reached_by (K.deeds desk.old) intake.old)
+        (reached_by (K.deeds desk.new) intake.new) result }
 {
     let Choice { parts, mut tally } = choice;
     let status = take_parts(
-        desk, request, path, parts, store, course, &mut tally, errors,
+        desk,
+        request,
+        parts,
+        intake,
+        &mut tally,
+        &mut standard.errors,
     );
-    status.max(tell_taken(desk.alloc(), path.as_str(), &tally, false, console, errors))
+    status.max(tell_taken(desk.alloc(), &tally, false, standard))
 }
 
 // Takes in the parts of a book, one after another, up to one that is refused.
 fn take_parts<E: Write + Progress, S: TuneStore + Catalog, K: AllocGlobal + Desk>(
     desk: &mut K,
     request: &Request,
-    path: &String,
     parts: Vec<ByteText>,
-    store: &mut S,
-    course: &mut Course,
+    intake: &mut Intake<S>,
     tally: &mut Tally,
     errors: &mut E,
 ) -> u8
     ensures files { SparesFiles (result_places (string_bytes request.now.file.now) None false)
         (K.deeds desk.old) (K.deeds desk.new) }
     ensures takes { TakesParts S.TuneStore (string_bytes request.now.file.now) parts.items
-        (reached_at (K.deeds desk.old) store.old course.old)
-        (reached_at (K.deeds desk.new) store.new course.new) result }
+        (reached_by (K.deeds desk.old) intake.old)
+        (reached_by (K.deeds desk.new) intake.new) result }
 {
     let mut rest = parts.into_iter();
     while let Some(part) = rest.next() {
-        let status = take_part(desk, request, path, part, store, course, tally, errors);
+        let status = take_part(desk, request, part, intake, tally, errors);
         if status != DONE {
             return status;
         }
@@ -226,32 +233,30 @@ fn take_parts<E: Write + Progress, S: TuneStore + Catalog, K: AllocGlobal + Desk
 fn take_part<E: Write, S: TuneStore + Catalog, K: AllocGlobal + Desk>(
     desk: &mut K,
     request: &Request,
-    path: &String,
     part: ByteText,
-    store: &mut S,
-    course: &mut Course,
+    intake: &mut Intake<S>,
     tally: &mut Tally,
     errors: &mut E,
 ) -> u8
     ensures files { SparesFiles (result_places (string_bytes request.now.file.now) None false)
         (K.deeds desk.old) (K.deeds desk.new) }
     ensures takes { TakesBook S.TuneStore (string_bytes request.now.file.now) part
-        (reached_at (K.deeds desk.old) store.old course.old)
-        (reached_at (K.deeds desk.new) store.new course.new) result }
+        (reached_by (K.deeds desk.old) intake.old)
+        (reached_by (K.deeds desk.new) intake.new) result }
 {
     tally.begin_part();
-    let brought = match Stock::of(store).tunes_of(desk.alloc(), part.as_slice()) {
+    let brought = match Stock::of(&intake.store).tunes_of(desk.alloc(), part.as_slice()) {
         Ok(brought) => brought,
-        Err(refusal) => return say_part_refused(errors, path.as_str(), tally, &refusal),
+        Err(refusal) => return say_part_refused(errors, tally, &refusal),
     };
-    match keep(desk, request.file, &brought, course) {
+    match keep(desk, request.file, &brought, &mut intake.course) {
         Ok(()) => {
-            let answer = import(store, part, course);
-            tell_answer(errors, request.file, path, &brought, &answer, tally)
+            let answer = import(&mut intake.store, part, &mut intake.course);
+            tell_answer(errors, request.file, &brought, &answer, tally)
         }
         Err(_) => {
-            course.failed = true;
-            say_unkept(errors, path.as_str())
+            intake.course.failed = true;
+            say_unkept(errors, tally.path)
         }
     }
 }
@@ -303,7 +308,6 @@ fn import<S: TuneStore>(
 fn tell_answer<E: Write>(
     errors: &mut E,
     file: &String,
-    path: &String,
     brought: &NewTunes,
     answer: &Result<Reply, Refusal>,
     tally: &mut Tally,
@@ -317,6 +321,6 @@ fn tell_answer<E: Write>(
             DONE
         }
         Err(Refusal::Device | Refusal::Closed) => say_failed(errors, file.as_str()),
-        Err(refusal) => say_part_refused(errors, path.as_str(), tally, refusal),
+        Err(refusal) => say_part_refused(errors, tally, refusal),
     }
 }

@@ -5,7 +5,7 @@ use crate::checked_books::put_lost;
 use crate::stocks::NewTunes;
 use abc_fields::TuneFault;
 use chosen_books::CarriedLines;
-use desk_scenes::{Progress, REFUSED, print, say};
+use desk_scenes::{Progress, REFUSED, StandardStreams, print, say};
 use std::alloc::{AllocError, Global};
 use std::io::Write;
 use tune_scripts::Console;
@@ -13,7 +13,9 @@ use tune_store::Refusal;
 
 // What became of a book.
 #[derive(Clone, Copy)]
-pub(crate) struct Tally {
+pub(crate) struct Tally<'a> {
+    // The path of the book.
+    pub(crate) path: &'a str,
     // The number of the first of its tunes that were taken in, and of the last.
     first: u32,
     last: u32,
@@ -32,10 +34,11 @@ pub(crate) struct Tally {
     pub(crate) lost: usize,
 }
 
-impl Tally {
+impl<'a> Tally<'a> {
     /// That of a book of so many parts, of which none was taken in.
-    pub(crate) fn of_parts(parts: usize) -> Tally {
+    pub(crate) fn of_parts(path: &'a str, parts: usize) -> Tally<'a> {
         Tally {
+            path,
             first: 0,
             last: 0,
             tunes: 0,
@@ -78,16 +81,14 @@ pub(crate) fn tell_progress<E: Progress>(errors: &mut E, what: &str, done: usize
 /// Prints what became of a book, and gives the status.
 pub(crate) fn tell_taken<C: Console, E: Write>(
     alloc: Global,
-    path: &str,
     tally: &Tally,
     dry: bool,
-    console: &mut C,
-    errors: &mut E,
+    standard: &mut StandardStreams<C, E>,
 ) -> u8 {
-    match taken_line(alloc, path, tally, dry) {
-        Ok(line) => print(console, errors, line.as_slice()),
+    match taken_line(alloc, tally, dry) {
+        Ok(line) => print(standard, line.as_slice()),
         Err(_) => {
-            say(errors, path, NO_MEMORY);
+            say(&mut standard.errors, tally.path, NO_MEMORY);
             REFUSED
         }
     }
@@ -95,7 +96,8 @@ pub(crate) fn tell_taken<C: Console, E: Write>(
 
 const NO_MEMORY: &str = "there is not memory enough; end other programs, and try again";
 
-fn taken_line(alloc: Global, path: &str, tally: &Tally, dry: bool) -> Result<Vec<u8>, AllocError> {
+fn taken_line(alloc: Global, tally: &Tally, dry: bool) -> Result<Vec<u8>, AllocError> {
+    let path = tally.path;
     let mut line = Vec::new(alloc);
     if tally.tunes == 0 {
         if tally.there > 0 {
@@ -171,19 +173,19 @@ fn put_carried(line: &mut Vec<u8>, carried: CarriedLines) -> Result<(), AllocErr
 pub(crate) fn say_refused<E: Write>(errors: &mut E, path: &str, refusal: &Refusal) -> u8
     ensures { result ≢ 0 }
 {
-    say_part_refused(errors, path, &Tally::of_parts(1), refusal)
+    say_part_refused(errors, &Tally::of_parts(path, 1), refusal)
 }
 
 /// Says why the part of a book that comes now is not taken in, and gives the status.
-pub(crate) fn say_part_refused<E: Write>(
-    errors: &mut E,
-    path: &str,
-    tally: &Tally,
-    refusal: &Refusal,
-) -> u8
+pub(crate) fn say_part_refused<E: Write>(errors: &mut E, tally: &Tally, refusal: &Refusal) -> u8
     ensures { result ≢ 0 }
 {
-    let Tally { part, parts, .. } = *tally;
+    let Tally {
+        path,
+        part,
+        parts,
+        ..
+    } = *tally;
     let _ = write!(errors, "tunes-book: {path}: ");
     if parts > 1 {
         let _ = write!(errors, "part {part} of {parts}: ");

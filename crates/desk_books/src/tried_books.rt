@@ -8,7 +8,7 @@ ghost use Rattle.desk_books.specs.Stages.{EachInTurn};
 ghost use Rattle.desk_books.specs.TriedBooks.{TriesFound, TriesPath, WouldTake};
 
 use crate::asked_texts::known_texts;
-use crate::chosen_parts::{Choice, choose};
+use crate::chosen_parts::{Choice, ReadBook, choose};
 use crate::requests::Request;
 use crate::stocks::Stock;
 use crate::taken_books::read_book;
@@ -17,7 +17,7 @@ use crate::told_imports::{
 };
 use abc_fields::ByteText;
 use chosen_books::KnownTexts;
-use desk_scenes::{DONE, Progress, Unanswered, open_to_read, say_unanswered};
+use desk_scenes::{DONE, Progress, StandardStreams, Unanswered, open_to_read, say_unanswered};
 use std::alloc::Global;
 use std::io::Write;
 use tune_desk::Desk;
@@ -39,8 +39,7 @@ pub(crate) fn try_books<C: Console, E: Write + Progress, D: Disk, K: AllocGlobal
     desk: &mut K,
     request: &Request,
     paths: &[String],
-    console: &mut C,
-    errors: &mut E,
+    standard: &mut StandardStreams<C, E>,
 ) -> u8
     ensures files { SparesFiles (result_places (string_bytes request.now.file.now) None false)
         (K.deeds desk.old) (K.deeds desk.new) }
@@ -48,8 +47,8 @@ pub(crate) fn try_books<C: Console, E: Write + Progress, D: Disk, K: AllocGlobal
         (K.deeds desk.old) (K.deeds desk.new) result }
 {
     match ask_holding(desk, request) {
-        Ok(mut holding) => try_each(desk, request, &mut holding, paths, console, errors),
-        Err(why) => say_unanswered(errors, request.file.as_str(), "add", &why),
+        Ok(mut holding) => try_each(desk, request, &mut holding, paths, standard),
+        Err(why) => say_unanswered(&mut standard.errors, request.file.as_str(), "add", &why),
     }
 }
 
@@ -89,8 +88,7 @@ fn try_each<C: Console, E: Write + Progress, K: AllocGlobal + Desk>(
     request: &Request,
     holding: &mut Holding,
     paths: &[String],
-    console: &mut C,
-    errors: &mut E,
+    standard: &mut StandardStreams<C, E>,
 ) -> u8
     ensures quiet { IsQuiet (K.deeds desk.old) (K.deeds desk.new) }
     ensures tries { EachInTurn (λ path. TriesPath (given_by request.now) holding.old.stock.layout
@@ -99,10 +97,10 @@ fn try_each<C: Console, E: Write + Progress, K: AllocGlobal + Desk>(
     let mut worst = DONE;
     let mut done = 0usize;
     for path in paths {
-        let status = try_path(desk, request, holding, path, console, errors);
+        let status = try_path(desk, request, holding, path, standard);
         worst = worst.max(status);
         done = done.saturating_add(1);
-        tell_progress(errors, "books", done, paths.len());
+        tell_progress(&mut standard.errors, "books", done, paths.len());
     }
     worst
 }
@@ -112,8 +110,7 @@ fn try_path<C: Console, E: Write + Progress, K: AllocGlobal + Desk>(
     request: &Request,
     holding: &mut Holding,
     path: &String,
-    console: &mut C,
-    errors: &mut E,
+    standard: &mut StandardStreams<C, E>,
 ) -> u8
     ensures layout { holding.new.stock.layout ≡ holding.old.stock.layout }
     ensures quiet { IsQuiet (K.deeds desk.old) (K.deeds desk.new) }
@@ -121,8 +118,14 @@ fn try_path<C: Console, E: Write + Progress, K: AllocGlobal + Desk>(
         (string_bytes path.now) (K.deeds desk.old) (K.deeds desk.new) result }
 {
     match read_book(desk, request, path) {
-        Ok(book) => try_book(desk.alloc(), request, holding, path, book, console, errors),
-        Err(_) => say_unread(errors, path.as_str()),
+        Ok(bytes) => {
+            let book = ReadBook {
+                path: path.as_str(),
+                bytes,
+            };
+            try_book(desk.alloc(), request, holding, book, standard)
+        }
+        Err(_) => say_unread(&mut standard.errors, path.as_str()),
     }
 }
 
@@ -131,50 +134,52 @@ fn try_book<C: Console, E: Write + Progress>(
     alloc: Global,
     request: &Request,
     holding: &mut Holding,
-    path: &String,
-    book: ByteText,
-    console: &mut C,
-    errors: &mut E,
+    book: ReadBook,
+    standard: &mut StandardStreams<C, E>,
 ) -> u8
     ensures layout { holding.new.stock.layout ≡ holding.old.stock.layout }
-    ensures tries { WouldTake request.now.how.now holding.old.stock.layout book result }
+    ensures tries { WouldTake request.now.how.now holding.old.stock.layout book.entry.bytes
+        result }
 {
+    let path = book.path;
     let layout = holding.stock.layout;
     let known = &mut holding.known;
     match choose(
         alloc,
         request.how,
         layout,
-        path.as_str(),
         book,
         known,
-        errors,
+        &mut standard.errors,
     ) {
-        Ok(choice) => try_choice(alloc, &mut holding.stock, path, choice, console, errors),
-        Err(refusal) => say_refused(errors, path.as_str(), &refusal),
+        Ok(choice) => try_choice(alloc, &mut holding.stock, choice, standard),
+        Err(refusal) => say_refused(&mut standard.errors, path, &refusal),
     }
 }
 
 fn try_choice<C: Console, E: Write + Progress>(
     alloc: Global,
     stock: &mut Stock,
-    path: &String,
     choice: Choice,
-    console: &mut C,
-    errors: &mut E,
+    standard: &mut StandardStreams<C, E>,
 ) -> u8
     ensures { stock.new.layout ≡ stock.old.layout }
 {
     let Choice { parts, mut tally } = choice;
-    let status = try_parts(alloc, stock, path, parts.as_slice(), &mut tally, errors);
-    status.max(tell_taken(alloc, path.as_str(), &tally, true, console, errors))
+    let status = try_parts(
+        alloc,
+        stock,
+        parts.as_slice(),
+        &mut tally,
+        &mut standard.errors,
+    );
+    status.max(tell_taken(alloc, &tally, true, standard))
 }
 
 // The parts of a book, one after another, up to one that would be refused.
 fn try_parts<E: Write + Progress>(
     alloc: Global,
     stock: &mut Stock,
-    path: &String,
     parts: &[ByteText],
     tally: &mut Tally,
     errors: &mut E,
@@ -189,7 +194,7 @@ fn try_parts<E: Write + Progress>(
                 *stock = stock.with(&brought);
                 tally.tell_part(errors);
             }
-            Err(refusal) => return say_part_refused(errors, path.as_str(), tally, &refusal),
+            Err(refusal) => return say_part_refused(errors, tally, &refusal),
         }
     }
     DONE

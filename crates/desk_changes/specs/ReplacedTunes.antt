@@ -1,6 +1,6 @@
 -- What the order does that puts the tune of a book in the place of a tune.
 use Rattle.std.specs.Prelude.{◌≡◌, ◌≢◌, ◌⊎◌, ℕ, ◌+◌, List, [], ◌∷◌, ◌++◌, Ok, Option}
-use Rattle.std.specs.Prelude.{None, Some, codes, count_by, decimal, if◌then◌else◌}
+use Rattle.std.specs.Prelude.{None, Some, codes, count_by, decimal, if◌then◌else◌, string_bytes}
 use Rattle.std.specs.Str.{bytes_eq}
 use Rattle.abc_fields.specs.Books.{book_answer}
 use Rattle.told_books.specs.Fates.{book_lines, fates_of, is_dropped}
@@ -17,6 +17,7 @@ use Rattle.tune_desk.specs.DeskDeeds.{DeskDeed, read}
 use Rattle.desk_scenes.specs.Printing.{ReadsAll, WritesNothing, WritesOrFails}
 use Rattle.desk_scenes.specs.Scenes.{IsQuiet, Scene}
 use Rattle.desk_changes.specs.ChangedFiles.{ChangesFile}
+use Rattle.desk_changes.specs.declared.replacing.AskedReplacement.{AskedReplacement}
 use Rattle.desk_changes.specs.declared.replacing.Replacement.{Replacement}
 
 -- What is asked: the number of a tune, the revision that it is to have, if one is given, and the
@@ -25,6 +26,10 @@ pub record Replacing : Type 0 where
   pub number : ℕ
   pub revision : Option ℕ
   pub book : List ℕ
+
+abbrev pub replacing_by : AskedReplacement → Replacing
+replacing_by asked =
+    record { number = asked.number; revision = asked.revision; book = string_bytes asked.book.now }
 
 -- THE BOOK
 -- It was read: standard input to its end, for `-`, or a file.

@@ -10,7 +10,7 @@ use crate::taking_back::read_changes;
 use crate::words::{NotUndone, say_not_undone};
 use abc_fields::ByteText;
 use desk_lists::change_list;
-use desk_scenes::print;
+use desk_scenes::{StandardStreams, print};
 use desk_terms::Form;
 use std::io::Write;
 use tune_desk::Desk;
@@ -23,19 +23,18 @@ pub(crate) fn list_changes<C: Console, E: Write, K: AllocGlobal + Desk>(
     desk: &mut K,
     file: &String,
     form: Form,
-    console: &mut C,
-    errors: &mut E,
+    standard: &mut StandardStreams<C, E>,
 ) -> u8
     ensures { ListsChanges (string_bytes file.now) form (record {
-      streams = streams_in C.Console console.old console.new;
+      streams = streams_in C.Console standard.old.console standard.new.console;
       was = K.deeds desk.old;
       now = K.deeds desk.new;
       status = result;
     }) }
 {
     match read_list(desk, file, form) {
-        Ok(list) => print(console, errors, list.as_slice()),
-        Err(why) => say_not_undone(errors, file.as_str(), &why),
+        Ok(list) => print(standard, list.as_slice()),
+        Err(why) => say_not_undone(&mut standard.errors, file.as_str(), &why),
     }
 }
 

@@ -18,5 +18,5 @@ mod words;
 
 pub use altering::alter;
 pub use laws::law_of_entries;
-pub use replacing::replace;
+pub use replacing::{AskedReplacement, replace};
 pub use taking_back::undo;

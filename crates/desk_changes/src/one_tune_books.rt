@@ -10,7 +10,7 @@ ghost use Rattle.desk_scenes.specs.Scenes.{IsQuiet};
 ghost use Rattle.desk_changes.specs.ReplacedTunes.{IsBookOf, ReadsOneBook, ReadsText};
 
 use abc_fields::{ByteText, TuneText, split_book};
-use desk_scenes::{desk_reason, read_input, say, say_refusal};
+use desk_scenes::{StandardStreams, desk_reason, read_input, say, say_refusal};
 use std::alloc::Global;
 use std::io::Write;
 use told_books::{DroppedLine, told_book};
@@ -23,16 +23,21 @@ use tune_store::{Layout, Refusal};
 pub(crate) fn read_text<C: Console, E: Write, K: AllocGlobal + Desk>(
     desk: &mut K,
     path: &String,
-    console: &mut C,
-    errors: &mut E,
+    standard: &mut StandardStreams<C, E>,
 ) -> Option<TuneText>
     ensures quiet { IsQuiet (K.deeds desk.old) (K.deeds desk.new) }
     ensures text { IfSome result (λ text. ReadsText (string_bytes path.now) text
-        (streams_in C.Console console.old console.new) (K.deeds desk.old) (K.deeds desk.new)) }
-    ensures output { C.output console.new ≡ C.output console.old }
+        (streams_in C.Console standard.old.console standard.new.console)
+        (K.deeds desk.old) (K.deeds desk.new)) }
+    ensures output { C.output standard.new.console ≡ C.output standard.old.console }
 {
-    match read_book(desk, path, console, errors) {
-        Some(book) => text_in(desk.alloc(), path.as_str(), book.as_slice(), errors),
+    match read_book(desk, path, standard) {
+        Some(book) => text_in(
+            desk.alloc(),
+            path.as_str(),
+            book.as_slice(),
+            &mut standard.errors,
+        ),
         None => None,
     }
 }
@@ -41,21 +46,21 @@ pub(crate) fn read_text<C: Console, E: Write, K: AllocGlobal + Desk>(
 fn read_book<C: Console, E: Write, K: AllocGlobal + Desk>(
     desk: &mut K,
     path: &String,
-    console: &mut C,
-    errors: &mut E,
+    standard: &mut StandardStreams<C, E>,
 ) -> Option<ByteText>
     ensures quiet { IsQuiet (K.deeds desk.old) (K.deeds desk.new) }
     ensures book { IfSome result (λ book. ReadsOneBook (string_bytes path.now) book
-        (streams_in C.Console console.old console.new) (K.deeds desk.old) (K.deeds desk.new)) }
-    ensures output { C.output console.new ≡ C.output console.old }
+        (streams_in C.Console standard.old.console standard.new.console)
+        (K.deeds desk.old) (K.deeds desk.new)) }
+    ensures output { C.output standard.new.console ≡ C.output standard.old.console }
 {
     if path.as_str() == "-" {
-        return input_book(desk.alloc(), console, errors);
+        return input_book(desk.alloc(), standard);
     }
     match desk.read(desk.alloc(), path) {
         Ok(book) => Some(book),
         Err(fault) => {
-            say(errors, path.as_str(), unread_reason(fault));
+            say(&mut standard.errors, path.as_str(), unread_reason(fault));
             None
         }
     }
@@ -71,17 +76,20 @@ fn unread_reason(fault: DeskFault) -> &'static str {
 // Standard input, as a book.
 fn input_book<C: Console, E: Write>(
     alloc: Global,
-    console: &mut C,
-    errors: &mut E,
+    standard: &mut StandardStreams<C, E>,
 ) -> Option<ByteText>
     ensures book { IfSome result (λ book.
-        ReadsAll (streams_in C.Console console.old console.new) book) }
-    ensures output { C.output console.new ≡ C.output console.old }
+        ReadsAll (streams_in C.Console standard.old.console standard.new.console) book) }
+    ensures output { C.output standard.new.console ≡ C.output standard.old.console }
 {
-    match read_input(alloc, console) {
+    match read_input(alloc, &mut standard.console) {
         Some(bytes) => Some(ByteText::from_vec(bytes)),
         None => {
-            say(errors, "standard input", "it could not be read to its end");
+            say(
+                &mut standard.errors,
+                "standard input",
+                "it could not be read to its end",
+            );
             None
         }
     }

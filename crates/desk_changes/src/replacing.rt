@@ -4,14 +4,15 @@ ghost use Rattle.std.specs.Prelude.{string_bytes};
 ghost use Rattle.tune_asking.specs.AskingCalls.{Call};
 ghost use Rattle.tune_scripts.specs.Streams.{streams_in};
 ghost use Rattle.tune_desk.specs.Results.{SparesFiles, result_places};
-ghost use Rattle.desk_changes.specs.ReplacedTunes.{replaced_line, ReplacesText, ReplacesTune};
+ghost use Rattle.desk_changes.specs.ReplacedTunes.{ReplacesText, ReplacesTune};
+ghost use Rattle.desk_changes.specs.ReplacedTunes.{replaced_line, replacing_by};
 ghost use Rattle.desk_changes.specs.Inside.Replacing.{told_turns, ReplacesIn, ReplacesInFile};
 
 use crate::one_tune_books::read_text;
 use crate::turning::carry;
 use crate::words::{Unchanged, say_unchanged};
 use abc_fields::{TuneFault, TuneText};
-use desk_scenes::{REFUSED, open_once, print};
+use desk_scenes::{REFUSED, StandardStreams, open_once, print};
 use std::alloc::{AllocError, Global};
 use std::io::Write;
 use tune_archive::Archive;
@@ -23,6 +24,18 @@ use tune_scripts::Console;
 use tune_store::{Catalog, Refusal, Tune, TuneStore};
 use tune_undo::EntryKind;
 
+/// What is asked for: that the tune of a book comes in the place of the tune of a number, where it
+/// has the revision that is given, if one is.
+#[derive(Clone, Copy)]
+pub struct AskedReplacement<'a> {
+    /// The number of the tune.
+    pub number: u32,
+    /// The revision that it is to have.
+    pub revision: Option<u32>,
+    /// The path of the book; `-` is standard input.
+    pub book: &'a String,
+}
+
 /// Puts the tune of a book in the place of the tune of a number, where that has the revision that
 /// is given, if one is; prints the revision that it has then, and gives the status: 0 done; 1
 /// refused, or a device failed; 3 no archive, or a damaged one. What is wrong is said to `errors`.
@@ -32,31 +45,27 @@ use tune_undo::EntryKind;
 pub fn replace<C: Console, E: Write, D: Disk, K: AllocGlobal + Desk<Disk = D>>(
     desk: &mut K,
     file: &String,
-    number: u32,
-    revision: Option<u32>,
-    book: &String,
-    console: &mut C,
-    errors: &mut E,
+    asked: &AskedReplacement,
+    standard: &mut StandardStreams<C, E>,
 ) -> u8
     ensures files { SparesFiles (result_places (string_bytes file.now) None false)
         (K.deeds desk.old) (K.deeds desk.new) }
-    ensures replaces { ReplacesTune D.Disk (string_bytes file.now)
-        (record { number = number; revision = revision; book = string_bytes book.now })
+    ensures replaces { ReplacesTune D.Disk (string_bytes file.now) (replacing_by asked.now)
         (record {
-          streams = streams_in C.Console console.old console.new;
+          streams = streams_in C.Console standard.old.console standard.new.console;
           was = K.deeds desk.old;
           now = K.deeds desk.new;
           status = result;
         }) }
 {
-    match read_text(desk, book, console, errors) {
+    match read_text(desk, asked.book, standard) {
         Some(text) => {
             let what = Replacement {
-                number,
-                revision,
+                number: asked.number,
+                revision: asked.revision,
                 text,
             };
-            replace_by(desk, file, what, book, console, errors)
+            replace_by(desk, file, what, asked.book, standard)
         }
         None => REFUSED,
     }
@@ -77,23 +86,28 @@ fn replace_by<C: Console, E: Write, D: Disk, K: AllocGlobal + Desk<Disk = D>>(
     file: &String,
     what: Replacement,
     book: &String,
-    console: &mut C,
-    errors: &mut E,
+    standard: &mut StandardStreams<C, E>,
 ) -> u8
     ensures files { SparesFiles (result_places (string_bytes file.now) None false)
         (K.deeds desk.old) (K.deeds desk.new) }
     ensures replaces { ReplacesText D.Disk (string_bytes file.now) what (record {
-      streams = streams_in C.Console console.old console.new;
+      streams = streams_in C.Console standard.old.console standard.new.console;
       was = K.deeds desk.old;
       now = K.deeds desk.new;
       status = result;
     }) }
-    ensures input { C.input console.new ≡ C.input console.old }
+    ensures input { C.input standard.new.console ≡ C.input standard.old.console }
 {
     let number = what.number;
     match replace_in_file(desk, file, what) {
-        Ok(line) => print(console, errors, line.as_slice()),
-        Err(why) => say_unreplaced(errors, file.as_str(), number, book.as_str(), &why),
+        Ok(line) => print(standard, line.as_slice()),
+        Err(why) => say_unreplaced(
+            &mut standard.errors,
+            file.as_str(),
+            number,
+            book.as_str(),
+            &why,
+        ),
     }
 }
 

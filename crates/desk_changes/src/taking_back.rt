@@ -33,7 +33,7 @@ use crate::telling::tell_undone;
 use crate::undone::{greatest_number, number_stray, restore, taken_by};
 use crate::words::{NotUndone, say_not_undone};
 use abc_fields::ByteText;
-use desk_scenes::{keep_entry, keep_mark, open_once, print};
+use desk_scenes::{StandardStreams, keep_entry, keep_mark, open_once, print};
 use desk_terms::Undoing;
 use std::alloc::{AllocError, Global};
 use std::io::Write;
@@ -51,22 +51,21 @@ pub fn undo<C: Console, E: Write, D: Disk, K: AllocGlobal + Desk<Disk = D>>(
     desk: &mut K,
     file: &String,
     undoing: &Undoing,
-    console: &mut C,
-    errors: &mut E,
+    standard: &mut StandardStreams<C, E>,
 ) -> u8
     ensures files { SparesFiles (result_places (string_bytes file.now) None false)
         (K.deeds desk.old) (K.deeds desk.new) }
     ensures undoes { Undoes D.Disk (string_bytes file.now) undoing.now (record {
-      streams = streams_in C.Console console.old console.new;
+      streams = streams_in C.Console standard.old.console standard.new.console;
       was = K.deeds desk.old;
       now = K.deeds desk.new;
       status = result;
     }) }
 {
     match undoing {
-        Undoing::Last => undo_some(desk, file, 1, console, errors),
-        Undoing::To(count) => undo_some(desk, file, *count, console, errors),
-        Undoing::List(form) => list_changes(desk, file, *form, console, errors),
+        Undoing::Last => undo_some(desk, file, 1, standard),
+        Undoing::To(count) => undo_some(desk, file, *count, standard),
+        Undoing::List(form) => list_changes(desk, file, *form, standard),
     }
 }
 
@@ -74,13 +73,12 @@ fn undo_some<C: Console, E: Write, D: Disk, K: AllocGlobal + Desk<Disk = D>>(
     desk: &mut K,
     file: &String,
     count: u32,
-    console: &mut C,
-    errors: &mut E,
+    standard: &mut StandardStreams<C, E>,
 ) -> u8
     ensures files { SparesFiles (result_places (string_bytes file.now) None false)
         (K.deeds desk.old) (K.deeds desk.new) }
     ensures undoes { UndoesFile D.Disk (string_bytes file.now) count (record {
-      streams = streams_in C.Console console.old console.new;
+      streams = streams_in C.Console standard.old.console standard.new.console;
       was = K.deeds desk.old;
       now = K.deeds desk.new;
       status = result;
@@ -88,10 +86,10 @@ fn undo_some<C: Console, E: Write, D: Disk, K: AllocGlobal + Desk<Disk = D>>(
 {
     let mut told = Vec::new(desk.alloc());
     let done = undo_in_file(desk, file, count, &mut told);
-    let printed = print(console, errors, told.as_slice());
+    let printed = print(standard, told.as_slice());
     match done {
         Ok(()) => printed,
-        Err(why) => say_not_undone(errors, file.as_str(), &why),
+        Err(why) => say_not_undone(&mut standard.errors, file.as_str(), &why),
     }
 }
 

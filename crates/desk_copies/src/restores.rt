@@ -16,7 +16,7 @@ use crate::copy_reasons::say_unrestored;
 use crate::disk_copies::sum_of_disk;
 use crate::put_aside::put_aside;
 use crate::sum_files::{SumFault, compare_sum};
-use desk_scenes::{Progress, REFUSED, print, say};
+use desk_scenes::{Progress, REFUSED, StandardStreams, print, say};
 use std::alloc::{AllocError, Global};
 use std::io::Write;
 use tune_archive::Counts;
@@ -59,6 +59,14 @@ pub(crate) enum Unrestored {
     Unnamed(ResultRefusal),
 }
 
+// What is asked for: that COPY comes where FILE leads, by `force` also where that is no archive.
+#[derive(Clone, Copy)]
+struct AskedRestore<'a> {
+    file: &'a String,
+    copy: &'a String,
+    force: bool,
+}
+
 /// Puts a copy where FILE leads, and gives the status. What stands there is first given the name
 /// FILE.N.old too, the first that is free; where it is no archive, only by `force`.
 pub fn restore<C: Console, E: Write + Progress, D: Disk, K: AllocGlobal + Desk<Disk = D>>(
@@ -66,36 +74,35 @@ pub fn restore<C: Console, E: Write + Progress, D: Disk, K: AllocGlobal + Desk<D
     file: &String,
     copy: &String,
     force: bool,
-    console: &mut C,
-    errors: &mut E,
+    standard: &mut StandardStreams<C, E>,
 ) -> u8
     ensures { Restores D.Disk (string_bytes file.now) (string_bytes copy.now) (record {
-      streams = streams_in C.Console console.old console.new;
+      streams = streams_in C.Console standard.old.console standard.new.console;
       was = K.deeds desk.old;
       now = K.deeds desk.new;
       status = result;
     }) }
 {
-    match restore_file(desk, file, copy, force, errors) {
-        Ok(restored) => print_restored(desk.alloc(), console, errors, file, restored),
-        Err(why) => say_unrestored(errors, file.as_str(), copy.as_str(), &why),
+    let asked = AskedRestore { file, copy, force };
+    match restore_file(desk, &asked, &mut standard.errors) {
+        Ok(restored) => print_restored(desk.alloc(), standard, file, restored),
+        Err(why) => say_unrestored(&mut standard.errors, file.as_str(), copy.as_str(), &why),
     }
 }
 
 fn restore_file<D: Disk, E: Progress, K: AllocGlobal + Desk<Disk = D>>(
     desk: &mut K,
-    file: &String,
-    copy: &String,
-    force: bool,
+    asked: &AskedRestore,
     teller: &mut E,
 ) -> Result<Restored, Unrestored>
-    ensures { RestoresFile D.Disk (string_bytes file.now) (string_bytes copy.now) result
+    ensures { RestoresFile D.Disk
+        (string_bytes asked.now.file.now) (string_bytes asked.now.copy.now) result
         (K.deeds desk.old) (K.deeds desk.new) }
 {
-    match desk.open(copy, Access::Read) {
+    match desk.open(asked.copy, Access::Read) {
         Ok(mut source) => {
-            let outcome = restore_agreed(desk, file, copy, force, &mut source, teller);
-            desk.close(copy, source);
+            let outcome = restore_agreed(desk, asked, &mut source, teller);
+            desk.close(asked.copy, source);
             outcome
         }
         Err(fault) => Err(Unrestored::Unread(fault)),
@@ -105,14 +112,12 @@ fn restore_file<D: Disk, E: Progress, K: AllocGlobal + Desk<Disk = D>>(
 // Restores what is open, where it agrees with the sum beside it.
 fn restore_agreed<D: Disk, E: Progress, K: AllocGlobal + Desk<Disk = D>>(
     desk: &mut K,
-    file: &String,
-    copy: &String,
-    force: bool,
+    asked: &AskedRestore,
     source: &mut D,
     teller: &mut E,
 ) -> Result<Restored, Unrestored>
-    ensures restores { AgreesAndRestores D.Disk (string_bytes file.now) (record {
-      path = string_bytes copy.now;
+    ensures restores { AgreesAndRestores D.Disk (string_bytes asked.now.file.now) (record {
+      path = string_bytes asked.now.copy.now;
       source = source.old;
       after = source.new;
     }) result (K.deeds desk.old) (K.deeds desk.new) }
@@ -122,8 +127,8 @@ fn restore_agreed<D: Disk, E: Progress, K: AllocGlobal + Desk<Disk = D>>(
         Ok(sum) => sum,
         Err(fault) => return Err(Unrestored::Uncopied(Uncopied::Bytes(fault))),
     };
-    match compare_sum(desk, copy, &sum) {
-        Ok(()) => restore_from(desk, file, copy, force, source, teller),
+    match compare_sum(desk, asked.copy, &sum) {
+        Ok(()) => restore_from(desk, asked, source, teller),
         Err(why) => Err(Unrestored::Sum(why)),
     }
 }
@@ -131,29 +136,26 @@ fn restore_agreed<D: Disk, E: Progress, K: AllocGlobal + Desk<Disk = D>>(
 // Copies what is open to TARGET.new, and puts that in its place.
 fn restore_from<D: Disk, E: Progress, K: AllocGlobal + Desk<Disk = D>>(
     desk: &mut K,
-    file: &String,
-    copy: &String,
-    force: bool,
+    asked: &AskedRestore,
     source: &mut D,
     teller: &mut E,
 ) -> Result<Restored, Unrestored>
-    ensures restores { RestoresFrom D.Disk (string_bytes file.now) (record {
-      path = string_bytes copy.now;
+    ensures restores { RestoresFrom D.Disk (string_bytes asked.now.file.now) (record {
+      path = string_bytes asked.now.copy.now;
       source = source.old;
       after = source.new;
     }) result (K.deeds desk.old) (K.deeds desk.new) }
     ensures source { IsLookedAt D.honest D.state source.old source.new }
 {
-    match begin_archive(desk, file, true) {
-        Ok(begun) => fill_copy(desk, copy, force, source, begun, teller),
+    match begin_archive(desk, asked.file, true) {
+        Ok(begun) => fill_copy(desk, asked, source, begun, teller),
         Err(fault) => Err(Unrestored::File(fault)),
     }
 }
 
 fn fill_copy<D: Disk, E: Progress, K: AllocGlobal + Desk<Disk = D>>(
     desk: &mut K,
-    copy: &String,
-    force: bool,
+    asked: &AskedRestore,
     source: &mut D,
     begun: BegunResult<D>,
     teller: &mut E,
@@ -162,17 +164,17 @@ fn fill_copy<D: Disk, E: Progress, K: AllocGlobal + Desk<Disk = D>>(
     ensures restores { (file : List ℕ) (was : List (DeskDeed D))
         → IsBegunArchive file (string_bytes begun.place.target) was (K.deeds desk.old)
         → RestoresFrom D.Disk file (record {
-          path = string_bytes copy.now;
+          path = string_bytes asked.now.copy.now;
           source = source.old;
           after = source.new;
         }) result was (K.deeds desk.new) }
     ensures source { IsLookedAt D.honest D.state source.old source.new }
 {
     let BegunResult { place, disk } = begun;
-    let _ = desk.share(&place.new, copy);
+    let _ = desk.share(&place.new, asked.copy);
     let Copying { disk, outcome } = copy_archive(desk.alloc(), source, disk, teller);
     match outcome {
-        Ok(copied) => match put_copy(desk, place, disk, force) {
+        Ok(copied) => match put_copy(desk, place, disk, asked.force) {
             Ok(aside) => Ok(Restored {
                 counts: copied.counts,
                 aside,
@@ -323,19 +325,18 @@ fn put_in_place<D: Disk, K: AllocGlobal + Desk<Disk = D>>(
 // Prints how much the archive holds now, and where the one that was there is.
 fn print_restored<C: Console, E: Write>(
     alloc: Global,
-    console: &mut C,
-    errors: &mut E,
+    standard: &mut StandardStreams<C, E>,
     file: &String,
     restored: Restored,
 ) -> u8
-    ensures { PrintsOrNot (streams_in C.Console console.old console.new)
+    ensures { PrintsOrNot (streams_in C.Console standard.old.console standard.new.console)
         (restored_bytes (string_bytes file.now) restored) result }
 {
     match restored_lines(alloc, file, restored) {
-        Ok(lines) => print(console, errors, lines.as_slice()),
+        Ok(lines) => print(standard, lines.as_slice()),
         Err(_) => {
             say(
-                errors,
+                &mut standard.errors,
                 file.as_str(),
                 "it is restored, and there is no memory to say more",
             );

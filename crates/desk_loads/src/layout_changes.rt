@@ -8,7 +8,9 @@ ghost use Rattle.tune_scripts.specs.Streams.{streams_in};
 ghost use Rattle.desk_loads.specs.Inside.LayoutChanges.{UpgradesBy, UpgradesFile};
 ghost use Rattle.desk_loads.specs.Upgraded.{AnswersUpgrade, Upgrades};
 
-use desk_scenes::{REFUSED, Unanswered, open_once, print, say_refusal, say_unopened_to_change};
+use desk_scenes::{
+    REFUSED, StandardStreams, Unanswered, open_once, print, say_refusal, say_unopened_to_change,
+};
 use std::io::Write;
 use tune_archive::{Archive, TuneStore};
 use tune_desk::Desk;
@@ -31,26 +33,24 @@ pub(crate) enum LayoutTwo {
 pub fn upgrade<C: Console, E: Write, D: Disk, K: AllocGlobal + Desk<Disk = D>>(
     desk: &mut K,
     file: &String,
-    console: &mut C,
-    errors: &mut E,
+    standard: &mut StandardStreams<C, E>,
 ) -> u8
     ensures files { SparesFiles (result_places (string_bytes file.now) None false)
         (K.deeds desk.old) (K.deeds desk.new) }
     ensures upgrades { Upgrades D.Disk (string_bytes file.now) (record {
-      streams = streams_in C.Console console.old console.new;
+      streams = streams_in C.Console standard.old.console standard.new.console;
       was = K.deeds desk.old;
       now = K.deeds desk.new;
       status = result;
     }) }
 {
-    match upgrade_file(desk, file, errors) {
+    match upgrade_file(desk, file, &mut standard.errors) {
         Ok(LayoutTwo::Already) => print(
-            console,
-            errors,
+            standard,
             b"it is of layout 2 already, and stays as it is\n",
         ),
-        Ok(LayoutTwo::Now) => print(console, errors, b"it is of layout 2 now\n"),
-        Err(why) => say_not_upgraded(errors, file.as_str(), &why),
+        Ok(LayoutTwo::Now) => print(standard, b"it is of layout 2 now\n"),
+        Err(why) => say_not_upgraded(&mut standard.errors, file.as_str(), &why),
     }
 }
 

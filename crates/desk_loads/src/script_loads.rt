@@ -14,7 +14,7 @@ use crate::filling::{Filled, Filling, Unfilled, fill_disk};
 use crate::load_reasons::{say_script_unread, say_unloaded};
 use abc_fields::ByteText;
 use desk_copies::{begin_archive, leave_archive, put_archive};
-use desk_scenes::{keep_entry, print_counts, read_input};
+use desk_scenes::{StandardStreams, keep_entry, print_counts, read_input};
 use std::io::Write;
 use tune_archive::Counts;
 use tune_desk::{
@@ -44,22 +44,21 @@ pub fn load<C: Console, E: Write, D: Disk, K: AllocGlobal + Desk<Disk = D>>(
     desk: &mut K,
     file: &String,
     script: &String,
-    console: &mut C,
-    errors: &mut E,
+    standard: &mut StandardStreams<C, E>,
 ) -> u8
     ensures { Loads D.Disk (string_bytes file.now) (string_bytes script.now) (record {
-      streams = streams_in C.Console console.old console.new;
+      streams = streams_in C.Console standard.old.console standard.new.console;
       was = K.deeds desk.old;
       now = K.deeds desk.new;
       status = result;
     }) }
 {
-    match read_script(desk, script, console) {
+    match read_script(desk, script, &mut standard.console) {
         Ok(bytes) => match load_bytes(desk, file, bytes.as_slice()) {
-            Ok(counts) => print_counts(desk.alloc(), console, errors, counts),
-            Err(why) => say_unloaded(errors, file.as_str(), script.as_str(), &why),
+            Ok(counts) => print_counts(desk.alloc(), standard, counts),
+            Err(why) => say_unloaded(&mut standard.errors, file.as_str(), script.as_str(), &why),
         },
-        Err(fault) => say_script_unread(errors, script.as_str(), fault),
+        Err(fault) => say_script_unread(&mut standard.errors, script.as_str(), fault),
     }
 }
 

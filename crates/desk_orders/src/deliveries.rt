@@ -5,10 +5,10 @@ ghost use Rattle.tune_desk.specs.Results.{result_places};
 ghost use Rattle.desk_scenes.specs.Scenes.{WritesResult};
 ghost use Rattle.desk_orders.specs.Orders.{Delivers};
 
-use desk_scenes::{print, write_file};
+use desk_scenes::{StandardStreams, print, write_file};
 use desk_words::Target;
 use std::io::Write;
-use tune_desk::{Desk, write_result};
+use tune_desk::{Desk, Destination, write_result};
 use tune_scripts::Console;
 
 /// Writes a result where a target says: to standard output for `-`, and else to a file. Gives the
@@ -18,19 +18,23 @@ pub(crate) fn deliver<C: Console, E: Write, K: AllocGlobal + Desk>(
     file: &String,
     target: &Target,
     bytes: &[u8],
-    console: &mut C,
-    errors: &mut E,
+    standard: &mut StandardStreams<C, E>,
 ) -> u8
     ensures { Delivers (string_bytes file.now) target.now bytes.now (record {
-      streams = streams_in C.Console console.old console.new;
+      streams = streams_in C.Console standard.old.console standard.new.console;
       was = K.deeds desk.old;
       now = K.deeds desk.new;
       status = result;
     }) }
 {
     if target.out.as_str() == "-" {
-        print(console, errors, bytes)
+        print(standard, bytes)
     } else {
-        write_file(desk, file, &target.out, target.force, bytes, errors)
+        let to = Destination {
+            file,
+            out: &target.out,
+            force: target.force,
+        };
+        write_file(desk, &to, bytes, &mut standard.errors)
     }
 }

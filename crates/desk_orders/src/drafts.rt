@@ -4,10 +4,10 @@ ghost use Rattle.tune_books.specs.WrittenBooks.{written_tune};
 ghost use Rattle.tune_scripts.specs.Streams.{streams_in};
 ghost use Rattle.desk_orders.specs.Orders.{WritesDraft};
 
-use desk_scenes::{REFUSED, print, say, write_file};
+use desk_scenes::{REFUSED, StandardStreams, print, say, write_file};
 use std::alloc::{AllocError, Global};
 use std::io::Write;
-use tune_desk::Desk;
+use tune_desk::{Desk, Destination};
 use tune_scripts::Console;
 use tune_store::Tune;
 
@@ -17,11 +17,10 @@ pub(crate) fn write_draft<C: Console, E: Write, K: AllocGlobal + Desk>(
     file: &String,
     tune: &Tune,
     out: &String,
-    console: &mut C,
-    errors: &mut E,
+    standard: &mut StandardStreams<C, E>,
 ) -> u8
     ensures { WritesDraft (string_bytes file.now) tune.now (string_bytes out.now) (record {
-      streams = streams_in C.Console console.old console.new;
+      streams = streams_in C.Console standard.old.console standard.new.console;
       was = K.deeds desk.old;
       now = K.deeds desk.new;
       status = result;
@@ -32,13 +31,22 @@ pub(crate) fn write_draft<C: Console, E: Write, K: AllocGlobal + Desk>(
         revision_line(desk.alloc(), tune.revision),
     ) {
         (Ok(text), Ok(revision)) => {
-            match write_file(desk, file, out, false, text.as_slice(), errors) {
-                0 => print(console, errors, revision.as_slice()),
+            let to = Destination {
+                file,
+                out,
+                force: false,
+            };
+            match write_file(desk, &to, text.as_slice(), &mut standard.errors) {
+                0 => print(standard, revision.as_slice()),
                 status => status,
             }
         }
         _ => {
-            say(errors, out.as_str(), "there is not memory enough");
+            say(
+                &mut standard.errors,
+                out.as_str(),
+                "there is not memory enough",
+            );
             REFUSED
         }
     }

@@ -13,12 +13,12 @@ use crate::drafts::write_draft;
 use crate::file_questions::{ask_counts, ask_question, ask_tune};
 use desk_backups::{backup, check_copy};
 use desk_books::{add, check_books};
-use desk_changes::{alter, replace, undo};
+use desk_changes::{AskedReplacement, alter, replace, undo};
 use desk_copies::{make, restore};
 use desk_loads::{load, upgrade};
 use desk_scenes::{
-    Progress, REFUSED, Unopened, bring_to_rest, print, print_counts, read_input, say,
-    say_unanswered, say_unopened,
+    Progress, REFUSED, StandardStreams, Unopened, bring_to_rest, print, print_counts, read_input,
+    say, say_unanswered, say_unopened,
 };
 use desk_terms::Question;
 use desk_words::{Order, Target};
@@ -37,40 +37,46 @@ pub fn carry_out<C: Console, E: Write + Progress, D: Disk, K: AllocGlobal + Desk
     desk: &mut K,
     file: &String,
     order: &Order,
-    console: &mut C,
-    errors: &mut E,
+    standard: &mut StandardStreams<C, E>,
 ) -> u8
     ensures files { KeepsFiles (string_bytes file.now) order.now
         (K.deeds desk.old) (K.deeds desk.new) }
     ensures does { CarriesOut D.Disk (string_bytes file.now) order.now (record {
-      streams = streams_in C.Console console.old console.new;
+      streams = streams_in C.Console standard.old.console standard.new.console;
       was = K.deeds desk.old;
       now = K.deeds desk.new;
       status = result;
     }) }
 {
     match order {
-        Order::Tell(question) => tell(desk, file, question, console, errors),
-        Order::Write { question, target } => write(desk, file, question, target, console, errors),
-        Order::Check => check(desk, file, console, errors),
-        Order::Draft { number, out } => draft(desk, file, *number, out, console, errors),
-        Order::Place(target) => place(desk, file, target, console, errors),
-        Order::CheckBooks(paths) => check_books(desk, paths.as_slice(), console, errors),
-        Order::Ask => ask(desk, file, console, errors),
-        Order::Make => make(desk, file, errors),
-        Order::Restore { copy, force } => restore(desk, file, copy, *force, console, errors),
-        Order::Alter(change) => alter(desk, file, change, errors),
+        Order::Tell(question) => tell(desk, file, question, standard),
+        Order::Write { question, target } => write(desk, file, question, target, standard),
+        Order::Check => check(desk, file, standard),
+        Order::Draft { number, out } => draft(desk, file, *number, out, standard),
+        Order::Place(target) => place(desk, file, target, standard),
+        Order::CheckBooks(paths) => check_books(desk, paths.as_slice(), standard),
+        Order::Ask => ask(desk, file, standard),
+        Order::Make => make(desk, file, &mut standard.errors),
+        Order::Restore { copy, force } => restore(desk, file, copy, *force, standard),
+        Order::Alter(change) => alter(desk, file, change, &mut standard.errors),
         Order::Replace {
             number,
             revision,
             book,
-        } => replace(desk, file, *number, *revision, book, console, errors),
-        Order::Undo(undoing) => undo(desk, file, undoing, console, errors),
-        Order::Load(script) => load(desk, file, script, console, errors),
-        Order::Upgrade => upgrade(desk, file, console, errors),
-        Order::CheckCopy(copy) => check_copy(desk, copy, console, errors),
-        Order::Add { books, how } => add(desk, file, books.as_slice(), how, console, errors),
-        Order::Backup { copy, keep } => backup(desk, file, copy, *keep, console, errors),
+        } => {
+            let asked = AskedReplacement {
+                number: *number,
+                revision: *revision,
+                book,
+            };
+            replace(desk, file, &asked, standard)
+        }
+        Order::Undo(undoing) => undo(desk, file, undoing, standard),
+        Order::Load(script) => load(desk, file, script, standard),
+        Order::Upgrade => upgrade(desk, file, standard),
+        Order::CheckCopy(copy) => check_copy(desk, copy, standard),
+        Order::Add { books, how } => add(desk, file, books.as_slice(), how, standard),
+        Order::Backup { copy, keep } => backup(desk, file, copy, *keep, standard),
     }
 }
 
@@ -79,12 +85,11 @@ fn tell<C: Console, E: Write, D: Disk, K: AllocGlobal + Desk<Disk = D>>(
     desk: &mut K,
     file: &String,
     question: &Question,
-    console: &mut C,
-    errors: &mut E,
+    standard: &mut StandardStreams<C, E>,
 ) -> u8
     ensures { TellsAnswer D.Disk (string_bytes file.now)
         (λ state bytes. told question.now state ≡ Ok bytes) (record {
-          streams = streams_in C.Console console.old console.new;
+          streams = streams_in C.Console standard.old.console standard.new.console;
           was = K.deeds desk.old;
           now = K.deeds desk.new;
           status = result;
@@ -92,10 +97,10 @@ fn tell<C: Console, E: Write, D: Disk, K: AllocGlobal + Desk<Disk = D>>(
 {
     match ask_question(desk, file, question) {
         Ok(bytes) => {
-            say_nothing_found(errors, question, bytes.as_slice());
-            print(console, errors, bytes.as_slice())
+            say_nothing_found(&mut standard.errors, question, bytes.as_slice());
+            print(standard, bytes.as_slice())
         }
-        Err(why) => say_unanswered(errors, file.as_str(), subject(question), &why),
+        Err(why) => say_unanswered(&mut standard.errors, file.as_str(), subject(question), &why),
     }
 }
 
@@ -132,20 +137,19 @@ fn write<C: Console, E: Write, D: Disk, K: AllocGlobal + Desk<Disk = D>>(
     file: &String,
     question: &Question,
     target: &Target,
-    console: &mut C,
-    errors: &mut E,
+    standard: &mut StandardStreams<C, E>,
 ) -> u8
     ensures { WritesAnswer D.Disk (string_bytes file.now)
         (λ state bytes. told question.now state ≡ Ok bytes) target.now (record {
-          streams = streams_in C.Console console.old console.new;
+          streams = streams_in C.Console standard.old.console standard.new.console;
           was = K.deeds desk.old;
           now = K.deeds desk.new;
           status = result;
         }) }
 {
     match ask_question(desk, file, question) {
-        Ok(bytes) => { deliver(desk, file, target, bytes.as_slice(), console, errors) }
-        Err(why) => say_unanswered(errors, file.as_str(), subject(question), &why),
+        Ok(bytes) => { deliver(desk, file, target, bytes.as_slice(), standard) }
+        Err(why) => say_unanswered(&mut standard.errors, file.as_str(), subject(question), &why),
     }
 }
 
@@ -153,20 +157,19 @@ fn write<C: Console, E: Write, D: Disk, K: AllocGlobal + Desk<Disk = D>>(
 fn check<C: Console, E: Write, D: Disk, K: AllocGlobal + Desk<Disk = D>>(
     desk: &mut K,
     file: &String,
-    console: &mut C,
-    errors: &mut E,
+    standard: &mut StandardStreams<C, E>,
 ) -> u8
     ensures { TellsAnswer D.Disk (string_bytes file.now)
         (λ state bytes. bytes ≡ counts_bytes state) (record {
-          streams = streams_in C.Console console.old console.new;
+          streams = streams_in C.Console standard.old.console standard.new.console;
           was = K.deeds desk.old;
           now = K.deeds desk.new;
           status = result;
         }) }
 {
     match ask_counts(desk, file) {
-        Ok(counts) => print_counts(desk.alloc(), console, errors, counts),
-        Err(why) => say_unanswered(errors, file.as_str(), "check", &why),
+        Ok(counts) => print_counts(desk.alloc(), standard, counts),
+        Err(why) => say_unanswered(&mut standard.errors, file.as_str(), "check", &why),
     }
 }
 
@@ -176,19 +179,18 @@ fn draft<C: Console, E: Write, D: Disk, K: AllocGlobal + Desk<Disk = D>>(
     file: &String,
     number: u32,
     out: &String,
-    console: &mut C,
-    errors: &mut E,
+    standard: &mut StandardStreams<C, E>,
 ) -> u8
     ensures { Drafts D.Disk (string_bytes file.now) number (string_bytes out.now) (record {
-      streams = streams_in C.Console console.old console.new;
+      streams = streams_in C.Console standard.old.console standard.new.console;
       was = K.deeds desk.old;
       now = K.deeds desk.new;
       status = result;
     }) }
 {
     match ask_tune(desk, file, number) {
-        Ok(tune) => write_draft(desk, file, &tune, out, console, errors),
-        Err(why) => say_unanswered(errors, file.as_str(), "edit", &why),
+        Ok(tune) => write_draft(desk, file, &tune, out, standard),
+        Err(why) => say_unanswered(&mut standard.errors, file.as_str(), "edit", &why),
     }
 }
 
@@ -197,20 +199,23 @@ fn place<C: Console, E: Write, D: Disk, K: AllocGlobal + Desk<Disk = D>>(
     desk: &mut K,
     file: &String,
     target: &Target,
-    console: &mut C,
-    errors: &mut E,
+    standard: &mut StandardStreams<C, E>,
 ) -> u8
     ensures { PlacesInput (string_bytes file.now) target.now (record {
-      streams = streams_in C.Console console.old console.new;
+      streams = streams_in C.Console standard.old.console standard.new.console;
       was = K.deeds desk.old;
       now = K.deeds desk.new;
       status = result;
     }) }
 {
-    match read_input(desk.alloc(), console) {
-        Some(bytes) => { deliver(desk, file, target, bytes.as_slice(), console, errors) }
+    match read_input(desk.alloc(), &mut standard.console) {
+        Some(bytes) => { deliver(desk, file, target, bytes.as_slice(), standard) }
         None => {
-            say(errors, "standard input", "it could not be read to its end");
+            say(
+                &mut standard.errors,
+                "standard input",
+                "it could not be read to its end",
+            );
             REFUSED
         }
     }
@@ -220,30 +225,28 @@ fn place<C: Console, E: Write, D: Disk, K: AllocGlobal + Desk<Disk = D>>(
 fn ask<C: Console, E: Write, D: Disk, K: AllocGlobal + Desk<Disk = D>>(
     desk: &mut K,
     file: &String,
-    console: &mut C,
-    errors: &mut E,
+    standard: &mut StandardStreams<C, E>,
 ) -> u8
     ensures { RunsOnFile D.Disk (string_bytes file.now) (record {
-      streams = streams_in C.Console console.old console.new;
+      streams = streams_in C.Console standard.old.console standard.new.console;
       was = K.deeds desk.old;
       now = K.deeds desk.new;
       status = result;
     }) }
 {
     match bring_to_rest(desk, file) {
-        Ok(()) => run_script(desk, file, console, errors),
-        Err(why) => say_unopened(errors, file.as_str(), why),
+        Ok(()) => run_script(desk, file, standard),
+        Err(why) => say_unopened(&mut standard.errors, file.as_str(), why),
     }
 }
 
 fn run_script<C: Console, E: Write, D: Disk, K: AllocGlobal + Desk<Disk = D>>(
     desk: &mut K,
     file: &String,
-    console: &mut C,
-    errors: &mut E,
+    standard: &mut StandardStreams<C, E>,
 ) -> u8
     ensures { RunsOnce D.Disk (string_bytes file.now) (record {
-      streams = streams_in C.Console console.old console.new;
+      streams = streams_in C.Console standard.old.console standard.new.console;
       was = K.deeds desk.old;
       now = K.deeds desk.new;
       status = result;
@@ -251,10 +254,10 @@ fn run_script<C: Console, E: Write, D: Disk, K: AllocGlobal + Desk<Disk = D>>(
 {
     match desk.open(file, Access::Read) {
         Ok(disk) => {
-            let Done { status, disk } = run_on(desk.alloc(), console, disk);
+            let Done { status, disk } = run_on(desk.alloc(), &mut standard.console, disk);
             desk.close(file, disk);
             status
         }
-        Err(fault) => say_unopened(errors, file.as_str(), Unopened::Unread(fault)),
+        Err(fault) => say_unopened(&mut standard.errors, file.as_str(), Unopened::Unread(fault)),
     }
 }

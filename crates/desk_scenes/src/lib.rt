@@ -9,6 +9,7 @@ mod printing;
 mod progress;
 mod reasons;
 mod result_files;
+mod standard_streams;
 mod unanswered;
 
 pub use file_opening::{Unopened, bring_to_rest, open_once, open_to_read};
@@ -21,4 +22,5 @@ pub use reasons::{
     say_unkept, say_unopened, say_unopened_to_change, say_unwritten,
 };
 pub use result_files::write_file;
+pub use standard_streams::StandardStreams;
 pub use unanswered::Unanswered;

@@ -6,6 +6,7 @@ ghost use Rattle.tune_scripts.specs.Replies.{line_of};
 ghost use Rattle.desk_scenes.specs.Printing.{Prints, PrintsOrNot};
 
 use crate::reasons::{DONE, REFUSED, say};
+use crate::standard_streams::StandardStreams;
 use std::alloc::{AllocError, Global};
 use std::io;
 use std::io::Write;
@@ -14,12 +15,13 @@ use tune_scripts::Console;
 
 /// Prints bytes, and gives the status: 0, also where the reader of a pipe went away, and 1 after
 /// any other fault, which is said.
-pub fn print<C: Console, E: Write>(console: &mut C, errors: &mut E, bytes: &[u8]) -> u8
-    ensures { Prints (streams_in C.Console console.old console.new) bytes.now result }
+pub fn print<C: Console, E: Write>(standard: &mut StandardStreams<C, E>, bytes: &[u8]) -> u8
+    ensures { Prints (streams_in C.Console standard.old.console standard.new.console) bytes.now
+        result }
 {
-    match write_out(console, bytes) {
+    match write_out(&mut standard.console, bytes) {
         Ok(()) => DONE,
-        Err(error) => say_unprinted(errors, &error),
+        Err(error) => say_unprinted(&mut standard.errors, &error),
     }
 }
 
@@ -48,17 +50,16 @@ fn say_unprinted<E: Write>(errors: &mut E, error: &io::Error) -> u8 {
 /// Prints how much an archive holds, and gives the status.
 pub fn print_counts<C: Console, E: Write>(
     alloc: Global,
-    console: &mut C,
-    errors: &mut E,
+    standard: &mut StandardStreams<C, E>,
     counts: Counts,
 ) -> u8
-    ensures { PrintsOrNot (streams_in C.Console console.old console.new)
+    ensures { PrintsOrNot (streams_in C.Console standard.old.console standard.new.console)
         (line_of counts.layout counts.tunes counts.sets) result }
 {
     match counts_line(alloc, counts) {
-        Ok(line) => print(console, errors, line.as_slice()),
+        Ok(line) => print(standard, line.as_slice()),
         Err(_) => {
-            say(errors, "check", "there is not memory enough");
+            say(&mut standard.errors, "check", "there is not memory enough");
             REFUSED
         }
     }

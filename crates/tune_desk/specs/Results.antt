@@ -1,7 +1,7 @@
 -- THE THEOREM ON FILES: what an order may do with files, and when. Of the deeds of one call, each
 -- is judged by those that came before it.
 use Rattle.std.specs.Prelude.{◌≡◌, ◌≢◌, ◌⊎◌, ℕ, Bool, true, false, List, [], ◌∷◌, ◌++◌, codes}
-use Rattle.std.specs.Prelude.{Option, Some, Ok, Err}
+use Rattle.std.specs.Prelude.{Option, Some, Ok, Err, string_bytes}
 use Rattle.std.specs.List.{AllByRecursion, Contains}
 use Rattle.tune_disk.specs.declared.file.Access.TheVariants.{Change}
 use Rattle.tune_desk.specs.DeskDeeds.{DeskDeed, Answer, looked, compared, tested, followed, made}
@@ -11,6 +11,7 @@ use Rattle.tune_desk.specs.DeskDeeds.{grown, created, linked, shared}
 use Rattle.tune_desk.specs.KeptNames.{folder_of, IsNamesake, IsKeptName}
 use Rattle.tune_desk.specs.declared.desk.DeskFault.TheVariants.{Missing, Unkept}
 use Rattle.tune_desk.specs.declared.desk.Standing.TheVariants as standing
+use Rattle.tune_desk.specs.declared.destinations.Destination.{Destination}
 
 -- The files of an order: FILE, its archive; OUT, where its result goes, if it has one; and whether
 -- a file that stands there may be written over.
@@ -21,6 +22,11 @@ pub record Places : Type 0 where
 
 abbrev pub result_places : List ℕ → Option (List ℕ) → Bool → Places
 result_places file out force = record { file = file; out = out; force = force }
+
+-- those of a result that goes to a destination
+abbrev pub places_for : Destination → Places
+places_for to =
+    result_places (string_bytes to.file.now) (Some (string_bytes to.out.now)) to.force
 
 -- OUT was found to lead to this TARGET.
 pub record LeadsTo {D : Type 0} (places : Places) (target : List ℕ) (before : List (DeskDeed D))

@@ -1,12 +1,12 @@
 // The one rule by which a result is written to a file.
-ghost use Rattle.std.specs.Prelude.{ℕ, List, Option, Some, IfOk, IfErr, string_bytes};
+ghost use Rattle.std.specs.Prelude.{IfOk, IfErr, string_bytes};
 ghost use Rattle.tune_desk.specs.Inside.Puts.{WritesTo};
 ghost use Rattle.tune_desk.specs.Refusals.{Refuses};
-ghost use Rattle.tune_desk.specs.Results.{SparesFiles, WritesTarget, result_places};
+ghost use Rattle.tune_desk.specs.Results.{SparesFiles, WritesTarget, places_for};
 
 use crate::putting::put;
 use crate::result_checks::may_be_written;
-use crate::{Desk, ResultFault, ResultRefusal};
+use crate::{Desk, Destination, ResultFault, ResultRefusal};
 use std::alloc::Global;
 
 /// Writes a result to OUT, whole or not at all: to TARGET.new, which is synced, and then named
@@ -20,22 +20,16 @@ use std::alloc::Global;
 pub fn write_result<K: Desk>(
     alloc: Global,
     desk: &mut K,
-    file: &String,
-    out: &String,
-    force: bool,
+    to: &Destination,
     bytes: &[u8],
 ) -> Result<(), ResultFault>
-    ensures files { let out_path = Some (string_bytes out.now) in
-        let places = result_places (string_bytes file.now) out_path force in
-        SparesFiles places (K.deeds desk.old) (K.deeds desk.new) }
-    ensures written { let out_path = Some (string_bytes out.now) in
-        let places = result_places (string_bytes file.now) out_path force in
-        IfOk result (λ _. WritesTarget places bytes.now (K.deeds desk.old) (K.deeds desk.new)) }
-    ensures refused { let out_path = Some (string_bytes out.now) in
-        let places = result_places (string_bytes file.now) out_path force in
-        IfErr result (λ fault. Refuses places fault (K.deeds desk.old) (K.deeds desk.new)) }
+    ensures files { SparesFiles (places_for to.now) (K.deeds desk.old) (K.deeds desk.new) }
+    ensures written { IfOk result (λ _.
+        WritesTarget (places_for to.now) bytes.now (K.deeds desk.old) (K.deeds desk.new)) }
+    ensures refused { IfErr result (λ fault.
+        Refuses (places_for to.now) fault (K.deeds desk.old) (K.deeds desk.new)) }
 {
-    let target = match desk.follow(alloc, out) {
+    let target = match desk.follow(alloc, to.out) {
         Ok(target) => target,
         Err(fault) => {
             return Err(ResultFault {
@@ -44,7 +38,7 @@ pub fn write_result<K: Desk>(
             });
         }
     };
-    match write_to(alloc, desk, file, &target, force, bytes) {
+    match write_to(alloc, desk, to, &target, bytes) {
         Ok(()) => Ok(()),
         Err(why) => Err(ResultFault {
             target: Some(target),
@@ -57,16 +51,14 @@ pub fn write_result<K: Desk>(
 fn write_to<K: Desk>(
     alloc: Global,
     desk: &mut K,
-    file: &String,
+    to: &Destination,
     target: &String,
-    force: bool,
     bytes: &[u8],
 ) -> Result<(), ResultRefusal>
-    ensures { (out : Option (List ℕ)) → let target = string_bytes target.now in
-        let places = result_places (string_bytes file.now) out force in
-        WritesTo places target bytes.now result (K.deeds desk.old) (K.deeds desk.new) }
+    ensures { WritesTo (places_for to.now) (string_bytes target.now) bytes.now result
+        (K.deeds desk.old) (K.deeds desk.new) }
 {
-    let over = may_be_written(alloc, desk, file, target, force)?;
+    let over = may_be_written(alloc, desk, to.file, target, to.force)?;
     let Ok(new) = format!(in alloc; "{target}.new") else {
         return Err(ResultRefusal::OutOfMemory);
     };

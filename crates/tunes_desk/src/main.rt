@@ -4,7 +4,7 @@
 
 use desk_files::{FileDesk, NOTHING, ProgressLine, Voice};
 use desk_orders::carry_out;
-use desk_scenes::Progress;
+use desk_scenes::{Progress, StandardStreams};
 use desk_words::{Order, Words, report, words_of};
 use std::env::VarError;
 use std::fs::{File, Files};
@@ -34,7 +34,7 @@ const NOT_TEXT: &str = "TUNES_BOOK is not UTF-8; name the file otherwise";
 fn main(rt: HostRuntime) -> ExitCode {
     let _ = Vec::<u8>::with_capacity(rt.alloc(), KEPT_BYTES);
     let line = ProgressLine::new(&rt, rt.stderr().is_terminal());
-    let answer = start(&rt, &line, &mut Voice::new(&line, rt.stderr()));
+    let answer = start(&rt, &line, Voice::new(&line, rt.stderr()));
     line.clear();
     let status = match answer {
         Ok(status) => status,
@@ -67,10 +67,10 @@ fn say_failure<R: Eprint>(rt: &R, error: &io::Error) -> u8 {
 }
 
 // Reads the words of the command, does what they ask for, and gives the status.
-fn start<R: Runtime + AllocGlobal + Files<File = File>, E: Write + Progress>(
+fn start<R: Runtime + AllocGlobal + Files<File = File>, E: Write + Progress + Drop>(
     rt: &R,
     line: &ProgressLine<R>,
-    errors: &mut E,
+    errors: E,
 ) -> io::Result<u8> {
     let words: Vec<String> = env::args(rt)?.collect(rt.alloc())?;
     match words_of(rt.alloc(), words.as_slice(), chance(rt)) {
@@ -100,11 +100,11 @@ fn chance<R: Runtime>(rt: &R) -> u64 {
 }
 
 // Finds out which archive is meant, and carries the order out.
-fn on_archive<R: Runtime + AllocGlobal + Files<File = File>, E: Write + Progress>(
+fn on_archive<R: Runtime + AllocGlobal + Files<File = File>, E: Write + Progress + Drop>(
     rt: &R,
     line: &ProgressLine<R>,
     words: &Words,
-    errors: &mut E,
+    errors: E,
 ) -> io::Result<u8> {
     match &words.file {
         Some(file) => perform(rt, line, file, words, errors),
@@ -118,12 +118,12 @@ fn on_archive<R: Runtime + AllocGlobal + Files<File = File>, E: Write + Progress
 }
 
 // No archive is told, for this reason: there are orders that want none.
-fn without_archive<R: Runtime + AllocGlobal + Files<File = File>, E: Write + Progress>(
+fn without_archive<R: Runtime + AllocGlobal + Files<File = File>, E: Write + Progress + Drop>(
     rt: &R,
     line: &ProgressLine<R>,
     why: &str,
     words: &Words,
-    errors: &mut E,
+    errors: E,
 ) -> io::Result<u8> {
     if let Order::CheckBooks(_) | Order::CheckCopy(_) = &words.order {
         return perform(rt, line, &String::new(rt.alloc()), words, errors);
@@ -133,12 +133,12 @@ fn without_archive<R: Runtime + AllocGlobal + Files<File = File>, E: Write + Pro
 }
 
 // Does what is asked, over standard input, output and error, and files.
-fn perform<R: Runtime + AllocGlobal + Files<File = File>, E: Write + Progress>(
+fn perform<R: Runtime + AllocGlobal + Files<File = File>, E: Write + Progress + Drop>(
     rt: &R,
     line: &ProgressLine<R>,
     file: &String,
     words: &Words,
-    errors: &mut E,
+    errors: E,
 ) -> io::Result<u8> {
     let mut desk = match FileDesk::new(rt, line, words.wait, &UnknownHistory) {
         Ok(desk) => desk,
@@ -150,6 +150,7 @@ fn perform<R: Runtime + AllocGlobal + Files<File = File>, E: Write + Progress>(
     let reader = BufReader::with_capacity(rt.alloc(), BUFFER, rt.reader())?;
     let output = Voice::new(line, io::writer(rt));
     let writer = BufWriter::with_capacity(rt.alloc(), BUFFER, output)?;
-    let mut console = StreamConsole::new(reader, writer);
-    Ok(carry_out(&mut desk, file, &words.order, &mut console, errors))
+    let console = StreamConsole::new(reader, writer);
+    let mut standard = StandardStreams { console, errors };
+    Ok(carry_out(&mut desk, file, &words.order, &mut standard))
 }

@@ -6,4 +6,4 @@ pub loop-number-init : goal.loop-number-init
 loop-number-init g c = (c.requires, λ was h. walk_begins _ _ was _ h refl refl)
 
 pub loop-number-preserved : goal.loop-number-preserved
-loop-number-preserved g c = (c.in_ok-walked.ensures.found, λ was h. c.in_ok-walked.ensures.thins c.args.newest was (c.loop-number.invariant.1 was h))
+loop-number-preserved g c = (c.in_ok-walked.ensures.found, λ was h. c.in_ok-walked.ensures.thins was (c.loop-number.invariant.1 was h))

@@ -1,6 +1,6 @@
 use Rattle.std.proofs.Common.{inl, inr, refl, string_bytes, subst}
 use Rattle.tune_archive.specs.AsStore.{store_on}
-use Rattle.desk_books.specs.AddedBooks.{TakesPath, reached_at, first_course}
+use Rattle.desk_books.specs.AddedBooks.{TakesPath, reached_at, reached_by, first_course}
 use Rattle.desk_books.specs.Givens.{given_by}
 use Rattle.desk_books.specs.Stages.{EachInTurn}
 use Rattle.desk_books.proofs.TurnLemmas.{each_map}
@@ -11,9 +11,9 @@ returns-in-Ok-clause-takes g c = λ is_open same.
     let given = given_by c.args.request.now in
     let was = g.K.Desk.deeds c.args.desk.now in
     let asked = c.known_texts.new.store in
-    let last = reached_at (g.K.Desk.deeds c.take_books.new.desk) c.take_books.new.store c.take_books.new.course in
+    let last = reached_by (g.K.Desk.deeds c.take_books.new.desk) c.take_books.new.intake in
     let takes = subst (λ course. EachInTurn (λ path. TakesPath (store_on g.D.Disk) given (string_bytes path)) c.args.found.now
-    (reached_at was asked course) last c.take_books.result) c.new-course.ensures c.take_books.ensures.takes in
+    (reached_at was asked course) last c.take_books.result) c.new.ensures c.take_books.ensures.takes in
     inl (
       asked,
       c.in-Ok.known,
@@ -21,7 +21,7 @@ returns-in-Ok-clause-takes g c = λ is_open same.
         asked = c.in-Ok.ensures.asked;
         told = λ honest. c.in-Ok.ensures.answer is_open honest (same (c.in-Ok.ensures.asked.was_honest honest));
       },
-      c.take_books.new.course,
+      c.take_books.new.intake.course,
       each_map (TakesPath (store_on g.D.Disk) given) string_bytes c.args.found.now (reached_at was asked (first_course c.in-Ok.known)) last
           c.take_books.result takes,
     )

@@ -27,7 +27,7 @@ returns-in-Ok-clause-takes g c =
     inl (record {
       around = record {
         start = c.in-Ok.archive;
-        finish = c.take_all-status.new.archive;
+        finish = c.take_all-status.new.intake.store;
         was = g.K.Desk.deeds c.open_once.new.desk;
         now = g.K.Desk.deeds c.take_all-status.new.desk;
       };

@@ -15,7 +15,7 @@ returns-in-Ok-summary g c =
     (ap (count_by is_dropped) c.in-Ok.ensures.fates) in
     inl (
       c.print.result,
-      subst (λ line. Prints (streams_in g.C.Console c.args.console.now c.print.new.console) line c.print.result)
+      subst (λ line. Prints (streams_in g.C.Console c.args.standard.now.console c.print.new.standard.console) line c.print.result)
           (c.as_slice.ensures.value ∙ by.0) c.print.ensures,
       c.max.ensures ∙ ap (λ n. max n c.print.result) by.1,
     )

@@ -10,10 +10,10 @@ loop-path-preserved g c =
     let was = g.K.Desk.deeds c.args.desk.now in
     let mid = g.K.Desk.deeds c.loop-path.desk in
     let now = g.K.Desk.deeds c.check_path-status.new.desk in
-    let start = stage_of g.C.Console c.args.console.now was in
-    let end = stage_of g.C.Console c.check_path-status.new.console now in
+    let start = stage_of g.C.Console c.args.standard.now.console was in
+    let end = stage_of g.C.Console c.check_path-status.new.standard.console now in
     let told = next_in_turn (λ path. TellsPath (string_bytes path)) c.args.paths.now c.loop-path.path-index c.path-item.result start
-    (stage_of g.C.Console c.loop-path.console mid) end c.loop-path.worst c.check_path-status.result c.loop-path-test.true c.path-item.is
+    (stage_of g.C.Console c.loop-path.standard.console mid) end c.loop-path.worst c.check_path-status.result c.loop-path-test.true c.path-item.is
     c.loop-path.invariant.told c.check_path-status.ensures.told in
     record {
       quiet = quiet_both was mid now c.loop-path.invariant.quiet c.check_path-status.ensures.quiet;

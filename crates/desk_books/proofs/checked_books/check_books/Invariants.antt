@@ -9,5 +9,5 @@ abbrev pub invariant-loop-path : goal.invariant-loop-path
 invariant-loop-path g l = record {
   quiet : IsQuiet (g.K.Desk.deeds l.fn.desk) (g.K.Desk.deeds l.desk);
   told : EachInTurn (λ path. TellsPath (string_bytes path)) (take l.path-index l.paths)
-      (stage_of g.C.Console l.fn.console (g.K.Desk.deeds l.fn.desk)) (stage_of g.C.Console l.console (g.K.Desk.deeds l.desk)) l.worst;
+      (stage_of g.C.Console l.fn.standard.console (g.K.Desk.deeds l.fn.desk)) (stage_of g.C.Console l.standard.console (g.K.Desk.deeds l.desk)) l.worst;
 }

@@ -18,10 +18,10 @@ pub returns-clause-told : goal.returns-clause-told
 returns-clause-told g c =
     let some : list_any is_book_name (map string_bytes c.in-Ok.names.items) ≡ true = search rules in
     let folder = string_bytes c.args.folder.now in
-    let after = stage_of g.C.Console c.check_names.new.console (g.K.Desk.deeds c.check_names.new.desk) in
+    let after = stage_of g.C.Console c.check_names.new.standard.console (g.K.Desk.deeds c.check_names.new.desk) in
     let same = subst (λ names. EachInTurn (λ name. TellsBookName folder (string_bytes name)) names
-    (stage_of g.C.Console c.args.console.now (g.K.Desk.deeds c.names.new.self)) after c.check_names.result) c.as_slice-2.ensures.value
+    (stage_of g.C.Console c.args.standard.now.console (g.K.Desk.deeds c.names.new.self)) after c.check_names.result) c.as_slice-2.ensures.value
     c.check_names.ensures.told in
     let told = subst (λ deeds. EachInTurn (λ name. TellsBookName folder (string_bytes name)) c.in-Ok.names.items
-    (stage_of g.C.Console c.args.console.now deeds) after c.check_names.result) c.in-Ok.ensures.deed same in
+    (stage_of g.C.Console c.args.standard.now.console deeds) after c.check_names.result) c.in-Ok.ensures.deed same in
     (Ok (map string_bytes c.in-Ok.names.items), inl (some, each_map (TellsBookName folder) string_bytes c.in-Ok.names.items _ after _ told))

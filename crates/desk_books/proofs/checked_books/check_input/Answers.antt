@@ -6,7 +6,7 @@ use Rattle.desk_books.proofs.checked_books.check_input.Goals as goal
 
 pub returns-in-Some-clause-told : goal.returns-in-Some-clause-told
 returns-in-Some-clause-told g c =
-    let streams = streams_in g.C.Console c.read_input.new.console c.check_book.new.console in
+    let streams = streams_in g.C.Console c.read_input.new.console c.check_book.new.standard.console in
     let told = subst (λ book. TellsBook (codes "-") book streams c.check_book.result) c.as_slice.ensures.value c.check_book.ensures in
     inl (
       c.in-Some.bytes.items,

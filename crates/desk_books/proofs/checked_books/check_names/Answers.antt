@@ -11,10 +11,10 @@ loop-name-preserved g c =
     let was = g.K.Desk.deeds c.args.desk.now in
     let mid = g.K.Desk.deeds c.loop-name.desk in
     let now = g.K.Desk.deeds c.check_name-status.new.desk in
-    let start = stage_of g.C.Console c.args.console.now was in
-    let end = stage_of g.C.Console c.check_name-status.new.console now in
+    let start = stage_of g.C.Console c.args.standard.now.console was in
+    let end = stage_of g.C.Console c.check_name-status.new.standard.console now in
     let told = next_in_turn (λ name. TellsBookName folder (string_bytes name)) c.args.names.now c.loop-name.name-index c.name-item.result start
-    (stage_of g.C.Console c.loop-name.console mid) end c.loop-name.worst c.check_name-status.result c.loop-name-test.true c.name-item.is
+    (stage_of g.C.Console c.loop-name.standard.console mid) end c.loop-name.worst c.check_name-status.result c.loop-name-test.true c.name-item.is
     c.loop-name.invariant.told c.check_name-status.ensures.told in
     record {
       quiet = quiet_both was mid now c.loop-name.invariant.quiet c.check_name-status.ensures.quiet;

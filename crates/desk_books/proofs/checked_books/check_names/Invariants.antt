@@ -9,5 +9,5 @@ abbrev pub invariant-loop-name : goal.invariant-loop-name
 invariant-loop-name g l = record {
   quiet : IsQuiet (g.K.Desk.deeds l.fn.desk) (g.K.Desk.deeds l.desk);
   told : EachInTurn (λ name. TellsBookName (string_bytes l.folder) (string_bytes name)) (take l.name-index l.names)
-      (stage_of g.C.Console l.fn.console (g.K.Desk.deeds l.fn.desk)) (stage_of g.C.Console l.console (g.K.Desk.deeds l.desk)) l.worst;
+      (stage_of g.C.Console l.fn.standard.console (g.K.Desk.deeds l.fn.desk)) (stage_of g.C.Console l.standard.console (g.K.Desk.deeds l.desk)) l.worst;
 }

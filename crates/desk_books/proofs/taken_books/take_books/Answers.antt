@@ -1,7 +1,7 @@
 use Rattle.std.proofs.Common.{None, false, string_bytes, subst, sym, take, ◌+◌}
 use Rattle.tune_desk.specs.Results.{result_places}
 use Rattle.tune_desk.proofs.SpareLemmas.{spares_both}
-use Rattle.desk_books.specs.AddedBooks.{TakesPath, reached_at}
+use Rattle.desk_books.specs.AddedBooks.{TakesPath, reached_by}
 use Rattle.desk_books.specs.Givens.{given_by}
 use Rattle.desk_books.specs.Stages.{EachInTurn}
 use Rattle.desk_books.proofs.TurnLemmas.{next_in_turn}
@@ -10,9 +10,9 @@ use Rattle.desk_books.proofs.taken_books.take_books.Goals as goal
 pub loop-path-preserved : goal.loop-path-preserved
 loop-path-preserved g c =
     let given = given_by c.args.request.now in
-    let start = reached_at (g.K.Desk.deeds c.args.desk.now) c.args.store.now c.args.course.now in
-    let mid = reached_at (g.K.Desk.deeds c.loop-path.desk) c.loop-path.store c.loop-path.course in
-    let end = reached_at (g.K.Desk.deeds c.take_path-status.new.desk) c.take_path-status.new.store c.take_path-status.new.course in
+    let start = reached_by (g.K.Desk.deeds c.args.desk.now) c.args.intake.now in
+    let mid = reached_by (g.K.Desk.deeds c.loop-path.desk) c.loop-path.intake in
+    let end = reached_by (g.K.Desk.deeds c.take_path-status.new.desk) c.take_path-status.new.intake in
     let taken = next_in_turn (λ path. TakesPath g.S.TuneStore given (string_bytes path)) c.args.paths.now c.loop-path.path-index c.path-item.result
     start mid end c.loop-path.worst c.take_path-status.result c.loop-path-test.true c.path-item.is c.loop-path.invariant.takes
     c.take_path-status.ensures.takes in

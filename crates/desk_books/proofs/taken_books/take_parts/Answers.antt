@@ -2,7 +2,7 @@ use Rattle.std.proofs.Common.{None, false, string_bytes}
 use Rattle.std.specs.Vec.Iter.{into_iter_items}
 use Rattle.tune_desk.specs.Results.{result_places}
 use Rattle.tune_desk.proofs.SpareLemmas.{spares_none, spares_both}
-use Rattle.desk_books.specs.AddedBooks.{reached_at}
+use Rattle.desk_books.specs.AddedBooks.{reached_by}
 use Rattle.desk_books.proofs.AddLemmas.{continues_first, continues_next, continues_stop}
 use Rattle.desk_books.proofs.taken_books.take_parts.Goals as goal
 
@@ -10,15 +10,15 @@ pub loop-part-init : goal.loop-part-init
 loop-part-init g c = record {
   files = spares_none (result_places (string_bytes c.args.request.now.file.now) None false) (g.K.Desk.deeds c.args.desk.now);
   takes = continues_first g.S.TuneStore (string_bytes c.args.request.now.file.now) c.args.parts.items
-      (reached_at (g.K.Desk.deeds c.args.desk.now) c.args.store.now c.args.course.now) (into_iter_items c.into_iter-rest.result) c.into_iter-rest.ensures.rest;
+      (reached_by (g.K.Desk.deeds c.args.desk.now) c.args.intake.now) (into_iter_items c.into_iter-rest.result) c.into_iter-rest.ensures.rest;
 }
 
 pub loop-part-preserved : goal.loop-part-preserved
 loop-part-preserved g c =
     let file = string_bytes c.args.request.now.file.now in
-    let start = reached_at (g.K.Desk.deeds c.args.desk.now) c.args.store.now c.args.course.now in
-    let here = reached_at (g.K.Desk.deeds c.loop-part.desk) c.loop-part.store c.loop-part.course in
-    let mid = reached_at (g.K.Desk.deeds c.take_part-status.new.desk) c.take_part-status.new.store c.take_part-status.new.course in
+    let start = reached_by (g.K.Desk.deeds c.args.desk.now) c.args.intake.now in
+    let here = reached_by (g.K.Desk.deeds c.loop-part.desk) c.loop-part.intake in
+    let mid = reached_by (g.K.Desk.deeds c.take_part-status.new.desk) c.take_part-status.new.intake in
     record {
       files = spares_both (result_places file None false) (g.K.Desk.deeds c.args.desk.now) (g.K.Desk.deeds c.loop-part.desk)
           (g.K.Desk.deeds c.take_part-status.new.desk) c.loop-part.invariant.files c.take_part-status.ensures.files;
@@ -35,9 +35,9 @@ returns-then-status-ne-DONE-clause-files g c =
 pub returns-then-status-ne-DONE-clause-takes : goal.returns-then-status-ne-DONE-clause-takes
 returns-then-status-ne-DONE-clause-takes g c =
     let file = string_bytes c.args.request.now.file.now in
-    let start = reached_at (g.K.Desk.deeds c.args.desk.now) c.args.store.now c.args.course.now in
-    let here = reached_at (g.K.Desk.deeds c.loop-part.desk) c.loop-part.store c.loop-part.course in
-    let new = reached_at (g.K.Desk.deeds c.take_part-status.new.desk) c.take_part-status.new.store c.take_part-status.new.course in
+    let start = reached_by (g.K.Desk.deeds c.args.desk.now) c.args.intake.now in
+    let here = reached_by (g.K.Desk.deeds c.loop-part.desk) c.loop-part.intake in
+    let new = reached_by (g.K.Desk.deeds c.take_part-status.new.desk) c.take_part-status.new.intake in
     continues_stop g.S.TuneStore file c.args.parts.items start (into_iter_items c.loop-part.rest) (into_iter_items c.next.new.self)
     c.in-Some.part here new c.take_part-status.result c.in-Some.ensures.items c.if-status-ne-DONE.true c.loop-part.invariant.takes
     c.take_part-status.ensures.takes

@@ -18,8 +18,8 @@ returns-in-Err-clause-files g c =
 
 pub returns-in-Ok-clause-takes : goal.returns-in-Ok-clause-takes
 returns-in-Ok-clause-takes g c =
-    inr (c.if-course.false, Ok c.in-Ok.book, g.K.Desk.deeds c.read_book.new.desk, c.in-Ok.ensures, c.take_book.ensures.takes)
+    inr (c.if-intake.false, Ok c.in-Ok.bytes, g.K.Desk.deeds c.read_book.new.desk, c.in-Ok.ensures, c.take_book.ensures.takes)
 
 pub returns-in-Err-clause-takes : goal.returns-in-Err-clause-takes
 returns-in-Err-clause-takes g c =
-    inr (c.if-course.false, Err c.in-Err.field-0, g.K.Desk.deeds c.read_book.new.desk, c.in-Err.ensures, (refl, c.say_unread.ensures))
+    inr (c.if-intake.false, Err c.in-Err.field-0, g.K.Desk.deeds c.read_book.new.desk, c.in-Err.ensures, (refl, c.say_unread.ensures))

@@ -7,6 +7,7 @@ use Rattle.desk_changes.proofs.one_tune_books.read_text.Goals as goal
 
 pub returns-in-Some-clause-text : goal.returns-in-Some-clause-text
 returns-in-Some-clause-text g c =
-    text_is_read (string_bytes c.args.path.now) c.in-Some.book c.text_in.result (streams_in g.C.Console c.args.console.now c.read_book.new.console)
+    text_is_read (string_bytes c.args.path.now) c.in-Some.book c.text_in.result
+    (streams_in g.C.Console c.args.standard.now.console c.read_book.new.standard.console)
     (g.K.Desk.deeds c.args.desk.now) (g.K.Desk.deeds c.read_book.new.desk) c.in-Some.ensures.book
     (subst (λ book. IfSome c.text_in.result (λ text. IsBookOf text book)) c.as_slice.ensures c.text_in.ensures)

@@ -15,17 +15,17 @@ returns-in-Some-clause-files g c =
 pub returns-in-Some-clause-replaces : goal.returns-in-Some-clause-replaces
 returns-in-Some-clause-replaces g c =
     let kept = g.C.Console in
-    let old = c.args.console.now in
-    let mid = c.read_text.new.console in
-    let new = c.replace_by.new.console in
+    let old = c.args.standard.now.console in
+    let mid = c.read_text.new.standard.console in
+    let new = c.replace_by.new.standard.console in
     let was = g.K.Desk.deeds c.args.desk.now in
     let begun = g.K.Desk.deeds c.read_text.new.desk in
     let now = g.K.Desk.deeds c.replace_by.new.desk in
-    let what : Replacement = record { number = c.args.number; revision = c.args.revision; text = c.in-Some.text } in
+    let what : Replacement = record { number = c.args.asked.now.number; revision = c.args.asked.now.revision; text = c.in-Some.text } in
     inl (
       c.in-Some.text,
       begun,
-      reads_on kept (string_bytes c.args.book.now) c.in-Some.text old mid new was begun c.replace_by.ensures.input c.in-Some.ensures.text,
+      reads_on kept (string_bytes c.args.asked.now.book.now) c.in-Some.text old mid new was begun c.replace_by.ensures.input c.in-Some.ensures.text,
       prints_after g.D.Disk (string_bytes c.args.file.now) what kept old mid new begun now c.replace_by.result c.in-Some.ensures.output
           c.replace_by.ensures.replaces,
     )

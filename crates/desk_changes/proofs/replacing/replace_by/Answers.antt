@@ -6,7 +6,7 @@ use Rattle.desk_changes.proofs.replacing.replace_by.Goals as goal
 pub returns-in-Ok-clause-replaces : goal.returns-in-Ok-clause-replaces
 returns-in-Ok-clause-replaces g c =
     let done = c.in-Ok.ensures.replaces in
-    let streams = streams_in g.C.Console c.args.console.now c.print.new.console in (
+    let streams = streams_in g.C.Console c.args.standard.now.console c.print.new.standard.console in (
       done.0,
       0,
       inl (refl, done.1),

@@ -11,7 +11,7 @@ returns-in-Ok-clause-undoes g c =
     inl (
       _,
       tells_all _ _ _ none c.in-Ok.ensures.undoes,
-      subst (λ bytes. Prints (streams_in g.C.Console c.args.console.now c.print-printed.new.console) bytes c.print-printed.result) same
+      subst (λ bytes. Prints (streams_in g.C.Console c.args.standard.now.console c.print-printed.new.standard.console) bytes c.print-printed.result) same
           c.print-printed.ensures,
     )
 

@@ -7,7 +7,7 @@ use Rattle.desk_copies.proofs.restores.fill_copy.Goals as goal
 
 pub returns-in-Ok-put_copy-clause-restores : goal.returns-in-Ok-put_copy-clause-restores
 returns-in-Ok-put_copy-clause-restores g c = λ file was h.
-    let shared = archive_shared file (string_bytes c.args.begun.place.target) was _ h _ (string_bytes c.args.copy.now) _
+    let shared = archive_shared file (string_bytes c.args.begun.place.target) was _ h _ (string_bytes c.args.asked.now.copy.now) _
     (shared_at _ _ _ _ _ _ c.requires c.share.ensures.deed) in
     let put = c.in-Ok-put_copy.ensures file was shared in
     let copies = rw c.in-Ok.is at c.copy_archive-disk.ensures.copied in
@@ -20,12 +20,12 @@ returns-in-Ok-put_copy-clause-restores g c = λ file was h.
 
 pub returns-in-Err-put_copy-clause-restores : goal.returns-in-Err-put_copy-clause-restores
 returns-in-Err-put_copy-clause-restores g c = λ file was h.
-    let shared = archive_shared file (string_bytes c.args.begun.place.target) was _ h _ (string_bytes c.args.copy.now) _
+    let shared = archive_shared file (string_bytes c.args.begun.place.target) was _ h _ (string_bytes c.args.asked.now.copy.now) _
     (shared_at _ _ _ _ _ _ c.requires c.share.ensures.deed) in
     c.in-Err-put_copy.ensures file was shared
 
 pub returns-in-Err-clause-restores : goal.returns-in-Err-clause-restores
 returns-in-Err-clause-restores g c = λ file was h.
-    let shared = archive_shared file (string_bytes c.args.begun.place.target) was _ h _ (string_bytes c.args.copy.now) _
+    let shared = archive_shared file (string_bytes c.args.begun.place.target) was _ h _ (string_bytes c.args.asked.now.copy.now) _
     (shared_at _ _ _ _ _ _ c.requires c.share.ensures.deed) in
     c.leave_archive.ensures KeepsNone file was shared

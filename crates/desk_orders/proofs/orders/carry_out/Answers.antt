@@ -14,7 +14,7 @@ pub returns-in-Tell-clause-files : goal.returns-in-Tell-clause-files
 returns-in-Tell-clause-files g c = kept_by (string_bytes c.args.file.now) c.args.order.now (order.Tell c.in-Tell.question) (g.K.Desk.deeds c.args.desk.now)
     (g.K.Desk.deeds c.tell.new.desk) c.in-Tell.is
     (told_keeps g.D.Disk (string_bytes c.args.file.now) (λ state bytes. told c.in-Tell.question state ≡ Ok bytes) (record {
-      streams = streams_in g.C.Console c.args.console.now c.tell.new.console;
+      streams = streams_in g.C.Console c.args.standard.now.console c.tell.new.standard.console;
       was = g.K.Desk.deeds c.args.desk.now;
       now = g.K.Desk.deeds c.tell.new.desk;
       status = c.tell.result;
@@ -24,7 +24,7 @@ pub returns-in-Write-clause-files : goal.returns-in-Write-clause-files
 returns-in-Write-clause-files g c = kept_by (string_bytes c.args.file.now) c.args.order.now (order.Write c.in-Write.question c.in-Write.target)
     (g.K.Desk.deeds c.args.desk.now) (g.K.Desk.deeds c.write.new.desk) c.in-Write.is
     (writes_spares g.D.Disk (string_bytes c.args.file.now) (λ state bytes. told c.in-Write.question state ≡ Ok bytes) c.in-Write.target (record {
-      streams = streams_in g.C.Console c.args.console.now c.write.new.console;
+      streams = streams_in g.C.Console c.args.standard.now.console c.write.new.standard.console;
       was = g.K.Desk.deeds c.args.desk.now;
       now = g.K.Desk.deeds c.write.new.desk;
       status = c.write.result;
@@ -34,7 +34,7 @@ pub returns-in-Check-clause-files : goal.returns-in-Check-clause-files
 returns-in-Check-clause-files g c = kept_by (string_bytes c.args.file.now) c.args.order.now order.Check (g.K.Desk.deeds c.args.desk.now)
     (g.K.Desk.deeds c.check.new.desk) c.in-Check.is
     (told_keeps g.D.Disk (string_bytes c.args.file.now) (λ state bytes. bytes ≡ counts_bytes state) (record {
-      streams = streams_in g.C.Console c.args.console.now c.check.new.console;
+      streams = streams_in g.C.Console c.args.standard.now.console c.check.new.standard.console;
       was = g.K.Desk.deeds c.args.desk.now;
       now = g.K.Desk.deeds c.check.new.desk;
       status = c.check.result;
@@ -44,7 +44,7 @@ pub returns-in-Draft-clause-files : goal.returns-in-Draft-clause-files
 returns-in-Draft-clause-files g c = kept_by (string_bytes c.args.file.now) c.args.order.now (order.Draft c.in-Draft.number c.in-Draft.out)
     (g.K.Desk.deeds c.args.desk.now) (g.K.Desk.deeds c.draft.new.desk) c.in-Draft.is
     (drafts_spares g.D.Disk (string_bytes c.args.file.now) c.in-Draft.number (string_bytes c.in-Draft.out) (record {
-      streams = streams_in g.C.Console c.args.console.now c.draft.new.console;
+      streams = streams_in g.C.Console c.args.standard.now.console c.draft.new.standard.console;
       was = g.K.Desk.deeds c.args.desk.now;
       now = g.K.Desk.deeds c.draft.new.desk;
       status = c.draft.result;
@@ -54,7 +54,7 @@ pub returns-in-Ask-clause-files : goal.returns-in-Ask-clause-files
 returns-in-Ask-clause-files g c = kept_by (string_bytes c.args.file.now) c.args.order.now order.Ask (g.K.Desk.deeds c.args.desk.now)
     (g.K.Desk.deeds c.ask.new.desk) c.in-Ask.is
     (asked_keeps g.D.Disk (string_bytes c.args.file.now) (record {
-      streams = streams_in g.C.Console c.args.console.now c.ask.new.console;
+      streams = streams_in g.C.Console c.args.standard.now.console c.ask.new.standard.console;
       was = g.K.Desk.deeds c.args.desk.now;
       now = g.K.Desk.deeds c.ask.new.desk;
       status = c.ask.result;
@@ -79,7 +79,7 @@ pub returns-in-Restore-clause-files : goal.returns-in-Restore-clause-files
 returns-in-Restore-clause-files g c = kept_by (string_bytes c.args.file.now) c.args.order.now (order.Restore c.in-Restore.copy c.in-Restore.force)
     (g.K.Desk.deeds c.args.desk.now) (g.K.Desk.deeds c.restore.new.desk) c.in-Restore.is
     (restored_keeps g.D.Disk (string_bytes c.args.file.now) (string_bytes c.in-Restore.copy) (record {
-      streams = streams_in g.C.Console c.args.console.now c.restore.new.console;
+      streams = streams_in g.C.Console c.args.standard.now.console c.restore.new.standard.console;
       was = g.K.Desk.deeds c.args.desk.now;
       now = g.K.Desk.deeds c.restore.new.desk;
       status = c.restore.result;
@@ -89,7 +89,7 @@ pub returns-in-Load-clause-files : goal.returns-in-Load-clause-files
 returns-in-Load-clause-files g c = kept_by (string_bytes c.args.file.now) c.args.order.now (order.Load c.in-Load.script) (g.K.Desk.deeds c.args.desk.now)
     (g.K.Desk.deeds c.load.new.desk) c.in-Load.is
     (loaded_keeps g.D.Disk (string_bytes c.args.file.now) (string_bytes c.in-Load.script) (record {
-      streams = streams_in g.C.Console c.args.console.now c.load.new.console;
+      streams = streams_in g.C.Console c.args.standard.now.console c.load.new.standard.console;
       was = g.K.Desk.deeds c.args.desk.now;
       now = g.K.Desk.deeds c.load.new.desk;
       status = c.load.result;

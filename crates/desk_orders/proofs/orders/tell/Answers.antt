@@ -7,5 +7,6 @@ pub returns-in-Ok : goal.returns-in-Ok
 returns-in-Ok g c = inl (
   c.in-Ok.bytes,
   c.in-Ok.ensures,
-  subst (λ bytes. Prints (streams_in g.C.Console c.args.console.now c.print.new.console) bytes c.print.result) c.as_slice-in-Ok.ensures c.print.ensures,
+  subst (λ bytes. Prints (streams_in g.C.Console c.args.standard.now.console c.print.new.standard.console) bytes c.print.result)
+      c.as_slice-in-Ok.ensures c.print.ensures,
 )

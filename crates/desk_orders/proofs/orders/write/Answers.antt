@@ -9,7 +9,7 @@ returns-in-Ok g c = inl (
   g.K.Desk.deeds c.ask_question.new.desk,
   c.in-Ok.ensures,
   subst (λ bytes. Delivers (string_bytes c.args.file.now) c.args.target.now bytes (record {
-    streams = streams_in g.C.Console c.args.console.now c.deliver.new.console;
+    streams = streams_in g.C.Console c.args.standard.now.console c.deliver.new.standard.console;
     was = g.K.Desk.deeds c.ask_question.new.desk;
     now = g.K.Desk.deeds c.deliver.new.desk;
     status = c.deliver.result;
