@@ -27,21 +27,28 @@ pub(crate) struct Choice<'a> {
     pub(crate) tally: Tally<'a>,
 }
 
+/// What a choice goes by: how books are taken in, and the layout of the archive that takes them in.
+#[derive(Clone, Copy)]
+pub(crate) struct Choosing {
+    pub(crate) how: Adding,
+    pub(crate) layout: Layout,
+}
+
 /// Chooses what of a book is taken in, and tells what is left out. What is chosen is known from
 /// then on, where only new tunes are asked for.
 pub(crate) fn choose<'a, E: Write>(
     alloc: Global,
-    how: &Adding,
-    layout: Layout,
+    choosing: Choosing,
     book: ReadBook<'a>,
     known: &mut KnownTexts,
     errors: &mut E,
 ) -> Result<Choice<'a>, Refusal>
     ensures { MatchResult result
-        (λ choice. Chooses how.now layout book.entry.bytes
+        (λ choice. Chooses choosing.how choosing.layout book.entry.bytes
         (record { was = known.old; now = known.new }) choice.parts.items)
-        (λ refusal. IsNotChosen how.now layout book.entry.bytes refusal) }
+        (λ refusal. IsNotChosen choosing.how choosing.layout book.entry.bytes refusal) }
 {
+    let Choosing { how, layout } = choosing;
     let ReadBook { path, bytes } = book;
     let longest = layout.longest_text();
     let lost = lost_of(alloc, bytes.as_slice(), longest)?;
@@ -52,7 +59,7 @@ pub(crate) fn choose<'a, E: Write>(
         bad,
         known: there,
         carried,
-    } = chosen_books(alloc, bytes, longest, *how, known)?;
+    } = chosen_books(alloc, bytes, longest, how, known)?;
     say_left_out(errors, path, bad.as_slice());
     let told = told_book(alloc, shown.as_slice(), longest);
     say_lost_lines(errors, path, told, carried.lines);
@@ -71,7 +78,7 @@ fn lost_of(alloc: Global, book: &[u8], longest: usize) -> Result<usize, AllocErr
 }
 
 // The book, where its lost lines are to be told.
-fn shown_of(alloc: Global, how: &Adding, book: &ByteText) -> Result<ByteText, AllocError> {
+fn shown_of(alloc: Global, how: Adding, book: &ByteText) -> Result<ByteText, AllocError> {
     if how.show_lost {
         ByteText::copy_of(alloc, book.as_slice())
     } else {

@@ -1,5 +1,5 @@
 // Books that are taken in, one after another.
-ghost use Rattle.std.specs.Prelude.{◌≡◌, ◌+◌, ◌<◌, ◌^◌, ℕ, List, Ok, IfOk, IsOk, is_err};
+ghost use Rattle.std.specs.Prelude.{◌≡◌, ◌≢◌, ◌+◌, ◌<◌, ◌^◌, ℕ, List, Ok, IfOk, is_err};
 ghost use Rattle.std.specs.Prelude.{MatchResult, None, false, string_bytes, vec_len};
 ghost use Rattle.abc_fields.specs.Books.{book_answer};
 ghost use Rattle.tune_scripts.specs.Carried.{IsCarried};
@@ -14,16 +14,15 @@ ghost use Rattle.desk_books.specs.Givens.{given_by, ReadsGivenBook};
 ghost use Rattle.desk_books.specs.Stages.{EachInTurn};
 
 use crate::added_entries::added_entry;
-use crate::chosen_parts::{Choice, ReadBook, choose};
+use crate::chosen_parts::{Choice, Choosing, ReadBook, choose};
 use crate::requests::Request;
 use crate::stocks::{NewTunes, Stock};
 use crate::told_imports::{
-    Tally, say_failed, say_part_refused, say_refused, say_unkept, say_unread, say_untried,
-    tell_progress, tell_taken,
+    Tally, Untaken, say_refused, say_unread, say_untaken, say_untried, tell_progress, tell_taken,
 };
 use abc_fields::ByteText;
 use chosen_books::KnownTexts;
-use desk_scenes::{DONE, Progress, REFUSED, StandardStreams, keep_entry};
+use desk_scenes::{DONE, Progress, StandardStreams, keep_entry};
 use std::alloc::Global;
 use std::io::Write;
 use tune_desk::{Desk, DeskFault, OldTextsFault};
@@ -161,16 +160,12 @@ fn take_book<C: Console, E: Write + Progress, S: TuneStore + Catalog, K: AllocGl
 {
     let path = book.path;
     let alloc = desk.alloc();
-    let layout = intake.store.layout();
+    let choosing = Choosing {
+        how: *request.how,
+        layout: intake.store.layout(),
+    };
     let known = &mut intake.course.known;
-    match choose(
-        alloc,
-        request.how,
-        layout,
-        book,
-        known,
-        &mut standard.errors,
-    ) {
+    match choose(alloc, choosing, book, known, &mut standard.errors) {
         Ok(choice) => { take_choice(desk, request, choice, intake, standard) }
         Err(refusal) => say_refused(&mut standard.errors, path, &refusal),
     }
@@ -191,72 +186,76 @@ fn take_choice<C: Console, E: Write + Progress, S: TuneStore + Catalog, K: Alloc
         (reached_by (K.deeds desk.old) intake.old)
         (reached_by (K.deeds desk.new) intake.new) result }
 {
-    let Choice { parts, mut tally } = choice;
-    let status = take_parts(
-        desk,
-        request,
-        parts,
-        intake,
-        &mut tally,
-        &mut standard.errors,
-    );
-    status.max(tell_taken(desk.alloc(), &tally, false, standard))
+    let tally = take_parts(desk, request, choice, intake, &mut standard.errors);
+    tally
+        .status
+        .max(tell_taken(desk.alloc(), &tally, false, standard))
 }
 
-// Takes in the parts of a book, one after another, up to one that is refused.
-fn take_parts<E: Write + Progress, S: TuneStore + Catalog, K: AllocGlobal + Desk>(
+// Takes in the parts of a book, one after another, up to one that is not taken in. Gives what
+// became of the book.
+fn take_parts<'a, E: Write + Progress, S: TuneStore + Catalog, K: AllocGlobal + Desk>(
     desk: &mut K,
     request: &Request,
-    parts: Vec<ByteText>,
+    choice: Choice<'a>,
     intake: &mut Intake<S>,
-    tally: &mut Tally,
     errors: &mut E,
-) -> u8
+) -> Tally<'a>
     ensures files { SparesFiles (result_places (string_bytes request.now.file.now) None false)
         (K.deeds desk.old) (K.deeds desk.new) }
-    ensures takes { TakesParts S.TuneStore (string_bytes request.now.file.now) parts.items
+    ensures takes { TakesParts S.TuneStore (string_bytes request.now.file.now)
+        choice.entry.parts.items
         (reached_by (K.deeds desk.old) intake.old)
-        (reached_by (K.deeds desk.new) intake.new) result }
+        (reached_by (K.deeds desk.new) intake.new) result.status }
 {
+    let Choice { parts, mut tally } = choice;
     let mut rest = parts.into_iter();
     while let Some(part) = rest.next() {
-        let status = take_part(desk, request, part, intake, tally, errors);
-        if status != DONE {
-            return status;
+        tally.begin_part();
+        match take_part(desk, request.file, part, intake) {
+            Ok(brought) => {
+                tally.take(&brought);
+                tally.tell_part(errors);
+            }
+            Err(why) => {
+                tally.status = say_untaken(errors, request.file.as_str(), &tally, &why);
+                return tally;
+            }
         }
-        tally.tell_part(errors);
     }
-    DONE
+    tally
 }
 
-// Takes in a part of a book, all of it or nothing.
-fn take_part<E: Write, S: TuneStore + Catalog, K: AllocGlobal + Desk>(
+// Takes in a part of a book, all of it or nothing. Gives the tunes that came, for which the status
+// is 0; or why none is taken in, for which it may be any other.
+fn take_part<S: TuneStore + Catalog, K: AllocGlobal + Desk>(
     desk: &mut K,
-    request: &Request,
+    file: &String,
     part: ByteText,
     intake: &mut Intake<S>,
-    tally: &mut Tally,
-    errors: &mut E,
-) -> u8
-    ensures files { SparesFiles (result_places (string_bytes request.now.file.now) None false)
+) -> Result<NewTunes, Untaken>
+    ensures files { SparesFiles (result_places (string_bytes file.now) None false)
         (K.deeds desk.old) (K.deeds desk.new) }
-    ensures takes { TakesBook S.TuneStore (string_bytes request.now.file.now) part
+    ensures takes { MatchResult result
+        (λ _. TakesBook S.TuneStore (string_bytes file.now) part
         (reached_by (K.deeds desk.old) intake.old)
-        (reached_by (K.deeds desk.new) intake.new) result }
+        (reached_by (K.deeds desk.new) intake.new) 0)
+        (λ _. (status : ℕ) → status ≢ 0 → TakesBook S.TuneStore (string_bytes file.now) part
+        (reached_by (K.deeds desk.old) intake.old)
+        (reached_by (K.deeds desk.new) intake.new) status) }
 {
-    tally.begin_part();
     let brought = match Stock::of(&intake.store).tunes_of(desk.alloc(), part.as_slice()) {
         Ok(brought) => brought,
-        Err(refusal) => return say_part_refused(errors, tally, &refusal),
+        Err(refusal) => return Err(Untaken::Refused(refusal)),
     };
-    match keep(desk, request.file, &brought, &mut intake.course) {
-        Ok(()) => {
-            let answer = import(&mut intake.store, part, &mut intake.course);
-            tell_answer(errors, request.file, &brought, &answer, tally)
-        }
+    match keep(desk, file, &brought, &mut intake.course) {
+        Ok(()) => match import(&mut intake.store, part, &mut intake.course) {
+            Ok(_) => Ok(brought),
+            Err(refusal) => Err(untaken_for(refusal)),
+        },
         Err(_) => {
             intake.course.failed = true;
-            say_unkept(errors, tally.path)
+            Err(Untaken::Unkept)
         }
     }
 }
@@ -304,23 +303,10 @@ fn import<S: TuneStore>(
     answer
 }
 
-// What an import was answered.
-fn tell_answer<E: Write>(
-    errors: &mut E,
-    file: &String,
-    brought: &NewTunes,
-    answer: &Result<Reply, Refusal>,
-    tally: &mut Tally,
-) -> u8
-    ensures done { result ≡ 0 → IsOk answer.now }
-    ensures refused { IsOk answer.now → result ≡ 0 }
-{
-    match answer {
-        Ok(_) => {
-            tally.take(brought);
-            DONE
-        }
-        Err(Refusal::Device | Refusal::Closed) => say_failed(errors, file.as_str()),
-        Err(refusal) => say_part_refused(errors, tally, refusal),
+// Why an import that was answered so did not take a part in.
+fn untaken_for(refusal: Refusal) -> Untaken {
+    match refusal {
+        Refusal::Device | Refusal::Closed => Untaken::Failed,
+        refusal => Untaken::Refused(refusal),
     }
 }

@@ -5,13 +5,13 @@ use crate::checked_books::put_lost;
 use crate::stocks::NewTunes;
 use abc_fields::TuneFault;
 use chosen_books::CarriedLines;
-use desk_scenes::{Progress, REFUSED, StandardStreams, print, say};
+use desk_scenes::{DONE, Progress, REFUSED, StandardStreams, print, say};
 use std::alloc::{AllocError, Global};
 use std::io::Write;
 use tune_scripts::Console;
 use tune_store::Refusal;
 
-// What became of a book.
+/// What became of a book.
 #[derive(Clone, Copy)]
 pub(crate) struct Tally<'a> {
     // The path of the book.
@@ -32,6 +32,8 @@ pub(crate) struct Tally<'a> {
     pub(crate) carried: CarriedLines,
     // How many of its lines are not kept.
     pub(crate) lost: usize,
+    // The status: that of its part that was not taken in, or 0.
+    pub(crate) status: u8,
 }
 
 impl<'a> Tally<'a> {
@@ -48,6 +50,7 @@ impl<'a> Tally<'a> {
             left_out: 0,
             carried: CarriedLines { lines: 0, tunes: 0 },
             lost: 0,
+            status: DONE,
         }
     }
 
@@ -77,6 +80,42 @@ pub(crate) fn tell_progress<E: Progress>(errors: &mut E, what: &str, done: usize
         errors.progress(what, done as u64, all as u64);
     }
 }
+
+/// Why a part of a book was not taken in.
+#[derive(Drop)]
+pub(crate) enum Untaken {
+    /// It is refused.
+    Refused(Refusal),
+    /// What it brings could not be kept.
+    Unkept,
+    /// The device failed within its import.
+    Failed,
+}
+
+/// Says why the part of a book that comes now was not taken into FILE, and gives the status.
+pub(crate) fn say_untaken<E: Write>(errors: &mut E, file: &str, tally: &Tally, why: &Untaken) -> u8
+    ensures { result ≢ 0 }
+{
+    match why {
+        Untaken::Refused(refusal) => say_part_refused(errors, tally, refusal),
+        Untaken::Unkept => {
+            say(errors, tally.path, NOT_KEPT);
+            REFUSED
+        }
+        Untaken::Failed => {
+            say(errors, file, FAILED);
+            REFUSED
+        }
+    }
+}
+
+const NOT_KEPT: &str =
+    "what it brings could not be noted beside the archive; nothing of it is taken in";
+
+const FAILED: &str =
+    "the device failed, and what was asked may have been done or not. Look at the disk and at the \
+     permissions, and let the system give up its cached pages before you go on: USING.md, \"The \
+     file cannot be used\", has the steps";
 
 /// Prints what became of a book, and gives the status.
 pub(crate) fn tell_taken<C: Console, E: Write>(
@@ -232,37 +271,11 @@ fn reason(refusal: &Refusal) -> &'static str {
     }
 }
 
-/// Says that the device failed within an import, and gives the status.
-pub(crate) fn say_failed<E: Write>(errors: &mut E, file: &str) -> u8
-    ensures { result ≢ 0 }
-{
-    say(
-        errors,
-        file,
-        "the device failed, and what was asked may have been done or not. Look at the disk and at \
-         the permissions, and let the system give up its cached pages before you go on: USING.md, \
-         \"The file cannot be used\", has the steps",
-    );
-    REFUSED
-}
-
 /// Says that a book could not be read, and gives the status.
 pub(crate) fn say_unread<E: Write>(errors: &mut E, path: &str) -> u8
     ensures { result ≢ 0 }
 {
     say(errors, path, "it cannot be read; nothing of it is taken in");
-    REFUSED
-}
-
-/// Says that what a book brings could not be kept, and gives the status.
-pub(crate) fn say_unkept<E: Write>(errors: &mut E, path: &str) -> u8
-    ensures { result ≢ 0 }
-{
-    say(
-        errors,
-        path,
-        "what it brings could not be noted beside the archive; nothing of it is taken in",
-    );
     REFUSED
 }
 

@@ -8,14 +8,13 @@ ghost use Rattle.desk_books.specs.Stages.{EachInTurn};
 ghost use Rattle.desk_books.specs.TriedBooks.{TriesFound, TriesPath, WouldTake};
 
 use crate::asked_texts::known_texts;
-use crate::chosen_parts::{Choice, ReadBook, choose};
+use crate::chosen_parts::{Choice, Choosing, ReadBook, choose};
 use crate::requests::Request;
 use crate::stocks::Stock;
 use crate::taken_books::read_book;
 use crate::told_imports::{
     Tally, say_part_refused, say_refused, say_unread, tell_progress, tell_taken,
 };
-use abc_fields::ByteText;
 use chosen_books::KnownTexts;
 use desk_scenes::{DONE, Progress, StandardStreams, Unanswered, open_to_read, say_unanswered};
 use std::alloc::Global;
@@ -142,16 +141,12 @@ fn try_book<C: Console, E: Write + Progress>(
         result }
 {
     let path = book.path;
-    let layout = holding.stock.layout;
+    let choosing = Choosing {
+        how: *request.how,
+        layout: holding.stock.layout,
+    };
     let known = &mut holding.known;
-    match choose(
-        alloc,
-        request.how,
-        layout,
-        book,
-        known,
-        &mut standard.errors,
-    ) {
+    match choose(alloc, choosing, book, known, &mut standard.errors) {
         Ok(choice) => try_choice(alloc, &mut holding.stock, choice, standard),
         Err(refusal) => say_refused(&mut standard.errors, path, &refusal),
     }
@@ -165,28 +160,22 @@ fn try_choice<C: Console, E: Write + Progress>(
 ) -> u8
     ensures { stock.new.layout ≡ stock.old.layout }
 {
-    let Choice { parts, mut tally } = choice;
-    let status = try_parts(
-        alloc,
-        stock,
-        parts.as_slice(),
-        &mut tally,
-        &mut standard.errors,
-    );
-    status.max(tell_taken(alloc, &tally, true, standard))
+    let tally = try_parts(alloc, stock, choice, &mut standard.errors);
+    tally.status.max(tell_taken(alloc, &tally, true, standard))
 }
 
-// The parts of a book, one after another, up to one that would be refused.
-fn try_parts<E: Write + Progress>(
+// The parts of a book, one after another, up to one that would be refused. Gives what would become
+// of the book.
+fn try_parts<'a, E: Write + Progress>(
     alloc: Global,
     stock: &mut Stock,
-    parts: &[ByteText],
-    tally: &mut Tally,
+    choice: Choice<'a>,
     errors: &mut E,
-) -> u8
+) -> Tally<'a>
     ensures { stock.new.layout ≡ stock.old.layout }
 {
-    for part in parts {
+    let Choice { parts, mut tally } = choice;
+    for part in &parts {
         tally.begin_part();
         match stock.tunes_of(alloc, part.as_slice()) {
             Ok(brought) => {
@@ -194,8 +183,11 @@ fn try_parts<E: Write + Progress>(
                 *stock = stock.with(&brought);
                 tally.tell_part(errors);
             }
-            Err(refusal) => return say_part_refused(errors, tally, &refusal),
+            Err(refusal) => {
+                tally.status = say_part_refused(errors, &tally, &refusal);
+                return tally;
+            }
         }
     }
-    DONE
+    tally
 }

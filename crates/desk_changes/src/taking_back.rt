@@ -138,7 +138,11 @@ fn undo_in_archive<D: Disk, K: AllocGlobal + Desk<Disk = D>>(
         }) }
 {
     let changes = read_changes(desk, file)?;
-    undo_times(desk, file, archive, changes.as_slice(), count, told)
+    let last = LastChanges {
+        changes: changes.as_slice(),
+        count,
+    };
+    undo_times(desk, file, archive, last, told)
 }
 
 // The entries of the book of old texts that are not undone.
@@ -183,13 +187,19 @@ fn steps_of(alloc: Global, book: ByteText) -> Result<Vec<Step>, AllocError>
     standing_steps(alloc, bytes.as_slice())
 }
 
+// Changes, by their entries, and how many of them, from the last one back, are to be undone.
+#[derive(Clone, Copy)]
+struct LastChanges<'a> {
+    changes: &'a [Step],
+    count: u32,
+}
+
 // Undoes the last of these changes, and those before it, until as many took place as are to be.
 fn undo_times<D: Disk, K: AllocGlobal + Desk<Disk = D>>(
     desk: &mut K,
     file: &String,
     archive: &mut Archive<D>,
-    changes: &[Step],
-    count: u32,
+    last: LastChanges,
     told: &mut Vec<u8>,
 ) -> Result<(), NotUndone>
     ensures works { WorksBeside D.Disk (string_bytes file.now) (record {
@@ -200,10 +210,10 @@ fn undo_times<D: Disk, K: AllocGlobal + Desk<Disk = D>>(
     }) }
     ensures undoes { TriesTimes D.Disk (string_bytes file.now)
         (record {
-          count = count;
+          count = last.entry.count;
           told = record { was = told.old.items; now = told.new.items };
         })
-        (steps_of changes.now) result
+        (steps_of last.entry.changes.now) result
         (record {
           start = archive.old;
           finish = archive.new;
@@ -211,6 +221,7 @@ fn undo_times<D: Disk, K: AllocGlobal + Desk<Disk = D>>(
           now = K.deeds desk.new;
         }) }
 {
+    let LastChanges { changes, count } = last;
     let mut left = changes.len();
     let mut wanted = count;
     while wanted > 0 {

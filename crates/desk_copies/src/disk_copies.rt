@@ -18,6 +18,13 @@ const PART: u64 = 65_536;
 /// How many bytes a disk has at most.
 const LONGEST: u64 = 1_099_511_627_776;
 
+// A part of what a disk shows: `size` bytes from the place `at` on.
+#[derive(Clone, Copy)]
+struct DiskPart {
+    at: u64,
+    size: usize,
+}
+
 /// Why a disk was not copied, or not summed.
 #[derive(Clone, Copy)]
 pub enum CopyFault {
@@ -117,36 +124,39 @@ fn copy_parts<D: Disk, E: Progress>(
     let mut at = 0u64;
     while at < size {
         let some = (size - at).min(PART);
-        copy_part(alloc, from, to, &mut sum, at, some as usize)?;
+        let part = DiskPart {
+            at,
+            size: some as usize,
+        };
+        copy_part(alloc, from, to, &mut sum, part)?;
         at += some;
         tell_bytes(teller, ByteWork::Copy, at, size);
     }
     Ok(sum.finalize())
 }
 
-// Copies so many bytes behind what is copied.
+// Copies this part behind what is copied.
 fn copy_part<D: Disk>(
     alloc: Global,
     from: &mut D,
     to: &mut D,
     sum: &mut Sha256,
-    at: u64,
-    some: usize,
+    part: DiskPart,
 ) -> Result<(), CopyFault>
-    requires { at + some ≤ 2 ^ 40 }
+    requires { part.at + part.size ≤ 2 ^ 40 }
     ensures copied { OnOk result (D.honest from.new → D.honest to.new
-        → at + some ≤ length (D.state from.old).seen
-        → (D.state to.old).seen ≡ take at (D.state from.old).seen
-        → (D.state to.new).seen ≡ take (at + some) (D.state from.old).seen) }
+        → part.at + part.size ≤ length (D.state from.old).seen
+        → (D.state to.old).seen ≡ take part.at (D.state from.old).seen
+        → (D.state to.new).seen ≡ take (part.at + part.size) (D.state from.old).seen) }
     ensures summed { OnOk result (D.honest from.new
-        → at + some ≤ length (D.state from.old).seen
-        → Holds256 sum.old (take at (D.state from.old).seen)
-        → Holds256 sum.new (take (at + some) (D.state from.old).seen)) }
+        → part.at + part.size ≤ length (D.state from.old).seen
+        → Holds256 sum.old (take part.at (D.state from.old).seen)
+        → Holds256 sum.new (take (part.at + part.size) (D.state from.old).seen)) }
     ensures from { IsLookedAt D.honest D.state from.old from.new }
     ensures to { D.honest to.new → D.honest to.old }
 {
-    let mut room = vec![in alloc; 0u8; some]?;
-    match copy_by(from, to, sum, at, room.as_mut_slice()) {
+    let mut room = vec![in alloc; 0u8; part.size]?;
+    match copy_by(from, to, sum, part.at, room.as_mut_slice()) {
         Ok(()) => Ok(()),
         Err(fault) => Err(fault),
     }
@@ -196,30 +206,33 @@ fn sum_parts<D: Disk, E: Progress>(
     let mut at = 0u64;
     while at < size {
         let some = (size - at).min(PART);
-        sum_part(alloc, disk, &mut sum, at, some as usize)?;
+        let part = DiskPart {
+            at,
+            size: some as usize,
+        };
+        sum_part(alloc, disk, &mut sum, part)?;
         at += some;
         tell_bytes(teller, ByteWork::Read, at, size);
     }
     Ok(sum.finalize())
 }
 
-// Feeds a sum so many bytes behind what it has.
+// Feeds a sum this part behind what it has.
 fn sum_part<D: Disk>(
     alloc: Global,
     disk: &mut D,
     sum: &mut Sha256,
-    at: u64,
-    some: usize,
+    part: DiskPart,
 ) -> Result<(), CopyFault>
-    requires { at + some ≤ 2 ^ 40 }
+    requires { part.at + part.size ≤ 2 ^ 40 }
     ensures summed { OnOk result (D.honest disk.new
-        → at + some ≤ length (D.state disk.old).seen
-        → Holds256 sum.old (take at (D.state disk.old).seen)
-        → Holds256 sum.new (take (at + some) (D.state disk.old).seen)) }
+        → part.at + part.size ≤ length (D.state disk.old).seen
+        → Holds256 sum.old (take part.at (D.state disk.old).seen)
+        → Holds256 sum.new (take (part.at + part.size) (D.state disk.old).seen)) }
     ensures disk { IsLookedAt D.honest D.state disk.old disk.new }
 {
-    let mut room = vec![in alloc; 0u8; some]?;
-    match sum_by(disk, sum, at, room.as_mut_slice()) {
+    let mut room = vec![in alloc; 0u8; part.size]?;
+    match sum_by(disk, sum, part.at, room.as_mut_slice()) {
         Ok(()) => Ok(()),
         Err(fault) => Err(fault),
     }

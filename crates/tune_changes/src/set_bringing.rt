@@ -13,6 +13,13 @@ use std::alloc::Global;
 use tune_sets::SetName;
 use tune_store::{Command, Refusal, TuneStore};
 
+// The places of a set list behind the first `kept`, of which there are `more`.
+#[derive(Clone, Copy)]
+struct PlacesBehind {
+    kept: usize,
+    more: usize,
+}
+
 // The set list of a name gets these numbers; it is made where there is none.
 pub(crate) fn put_numbers<S: TuneStore>(
     alloc: Global,
@@ -83,7 +90,11 @@ fn lay_anew<S: TuneStore>(
     if ends_alike(old, new, kept, fewer) {
         return cut_times(alloc, store, name, kept + 1, fewer);
     }
-    put_behind(alloc, store, name, kept, old.len() - kept, &new[kept..])
+    let places = PlacesBehind {
+        kept,
+        more: old.len() - kept,
+    };
+    put_behind(alloc, store, name, places, &new[kept..])
 }
 
 // Whether the numbers that follow on so many places in front, and fewer, are those that follow on
@@ -96,20 +107,19 @@ fn ends_alike(old: &[u32], new: &[u32], kept: usize, fewer: usize) -> bool
     old[kept + fewer..] == new[kept..]
 }
 
-// The places behind the first `kept` are cut, of which there are so many, and numbers put there.
+// These places are cut, and numbers put there.
 fn put_behind<S: TuneStore>(
     alloc: Global,
     store: &mut S,
     name: &SetName,
-    kept: usize,
-    more: usize,
+    places: PlacesBehind,
     numbers: &[u32],
 ) -> Result<(), Refusal>
-    requires { kept + more < 2 ^ 64 }
+    requires { places.kept + places.more < 2 ^ 64 }
     ensures { Carries S.TuneStore store.old store.new
-        (cut_behind name.now kept more ++ map (SetAdd name.now) numbers.now) result }
+        (cut_behind name.now places.kept places.more ++ map (SetAdd name.now) numbers.now) result }
 {
-    cut_to(alloc, store, name, kept, more)?;
+    cut_to(alloc, store, name, places)?;
     add_numbers(alloc, store, name, numbers)
 }
 
@@ -145,20 +155,20 @@ fn cut_times<S: TuneStore>(
     Ok(())
 }
 
-// The places behind the first `kept` are cut, of which there are so many, the last one first.
+// These places are cut, the last one first.
 fn cut_to<S: TuneStore>(
     alloc: Global,
     store: &mut S,
     name: &SetName,
-    kept: usize,
-    more: usize,
+    places: PlacesBehind,
 ) -> Result<(), Refusal>
-    requires { kept + more < 2 ^ 64 }
-    ensures { Carries S.TuneStore store.old store.new (cut_behind name.now kept more) result }
+    requires { places.kept + places.more < 2 ^ 64 }
+    ensures { Carries S.TuneStore store.old store.new
+        (cut_behind name.now places.kept places.more) result }
 {
-    let mut left = more;
+    let mut left = places.more;
     while left > 0 {
-        cut_place(alloc, store, name, kept + left)?;
+        cut_place(alloc, store, name, places.kept + left)?;
         left -= 1;
     }
     Ok(())

@@ -13,11 +13,11 @@ returns-in_err-shown g c =
 pub returns-in_err-parts : goal.returns-in_err-parts
 returns-in_err-parts g c =
     let p = err_from_is_err_and c.from_residual-in_err-parts.result c.from_residual-in_err-parts.ensures.1 in
-    rw p.1 (not_chosen c.args.how.now c.args.layout c.args.book.bytes c.longest_text-longest.result _ p.0
+    rw p.1 (not_chosen c.args.choosing.how c.args.choosing.layout c.args.book.bytes c.longest_text-longest.result _ p.0
     c.longest_text-longest.ensures.longest p.2 c.in_err-parts.ensures.refused)
 
 pub returns : goal.returns
 returns g c =
     let chosen = c.in_ok-parts.ensures in
-    chooses c.args.how.now c.args.layout c.args.book.bytes c.args.known.now c.chosen_books.new.known _ c.longest_text-longest.result
+    chooses c.args.choosing.how c.args.choosing.layout c.args.book.bytes c.args.known.now c.chosen_books.new.known _ c.longest_text-longest.result
     c.longest_text-longest.ensures.longest chosen.taken chosen.parts chosen.whole chosen.sums

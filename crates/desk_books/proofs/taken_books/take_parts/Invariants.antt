@@ -9,7 +9,7 @@ use Rattle.desk_books.proofs.taken_books.take_parts.Given as goal
 abbrev pub invariant-loop-part : goal.invariant-loop-part
 invariant-loop-part g l = record {
   files : SparesFiles (result_places (string_bytes l.request.file.now) None false) (g.K.Desk.deeds l.fn.desk) (g.K.Desk.deeds l.desk);
-  takes : Continues g.S.TuneStore (string_bytes l.request.file.now) l.fn.parts.items (reached_by (g.K.Desk.deeds l.fn.desk) l.fn.intake)
+  takes : Continues g.S.TuneStore (string_bytes l.request.file.now) l.fn.choice.parts.items (reached_by (g.K.Desk.deeds l.fn.desk) l.fn.intake)
       (into_iter_items l.rest) (reached_by (g.K.Desk.deeds l.desk) l.intake);
 }
 

@@ -12,7 +12,7 @@ use Rattle.desk_changes.proofs.taking_back.undo_times.Goals as goal
 pub loop-wanted-init : goal.loop-wanted-init
 loop-wanted-init g c =
     let file = string_bytes c.args.file.now in
-    let changes = c.args.changes.now in
+    let changes = c.args.last.changes.now in
     record {
       within = omega arith;
       works = beside_none g.D.Disk file _ _;
@@ -28,12 +28,12 @@ returns-then-left-eq0-clause-works g c = c.loop-wanted.invariant.works
 
 pub returns-then-left-eq0-clause-undoes : goal.returns-then-left-eq0-clause-undoes
 returns-then-left-eq0-clause-undoes g c =
-    none_left g.D.Disk (string_bytes c.args.file.now) c.args.changes.now c.loop-wanted.left c.loop-wanted.wanted c.args.count _ _ _ _ _ _
+    none_left g.D.Disk (string_bytes c.args.file.now) c.args.last.changes.now c.loop-wanted.left c.loop-wanted.wanted c.args.last.count _ _ _ _ _ _
     c.loop-wanted.invariant.so (omega arith) (omega arith)
 
 pub returns-in_err-took_place-clause-undoes : goal.returns-in_err-took_place-clause-undoes
 returns-in_err-took_place-clause-undoes g c =
-    let changes = c.args.changes.now in
+    let changes = c.args.last.changes.now in
     let left = c.loop-wanted.left in
     let first = c.first_of-first.result in
     let long = length-take-le left changes c.loop-wanted.invariant.within in
@@ -41,14 +41,14 @@ returns-in_err-took_place-clause-undoes g c =
     let less = c.first_of-first.ensures.before some in
     let p = err_from_is_err_and c.from_residual.result c.from_residual.ensures.1 in
     let change = steps_of (take (left - first) (drop first changes)) in
-    rw p.1 (next_broken g.D.Disk (string_bytes c.args.file.now) changes left first c.loop-wanted.wanted c.args.count change _ _ _ _ _
+    rw p.1 (next_broken g.D.Disk (string_bytes c.args.file.now) changes left first c.loop-wanted.wanted c.args.last.count change _ _ _ _ _
     _ _ _ c.loop-wanted.invariant.so (ends_in changes left first (omega (arith, less, long))
     (c.first_of-first.ensures.ends some)) (omega arith) c.in_err-took_place.ensures.undoes)
 
 pub loop-wanted-preserved-then-took_place : goal.loop-wanted-preserved-then-took_place
 loop-wanted-preserved-then-took_place g c =
     let file = string_bytes c.args.file.now in
-    let changes = c.args.changes.now in
+    let changes = c.args.last.changes.now in
     let left = c.loop-wanted.left in
     let wanted = c.loop-wanted.wanted in
     let first = c.first_of-first.result in
@@ -61,7 +61,7 @@ loop-wanted-preserved-then-took_place g c =
     record {
       within = omega (arith, less, long, c.loop-wanted.invariant.within);
       works = beside_both g.D.Disk file _ _ _ _ _ _ c.loop-wanted.invariant.works c.undo_change.ensures.works;
-      so = one_taken g.D.Disk file changes left first wanted (wanted - 1) c.args.count change _ _ _ _ _ _ _ _ _ c.loop-wanted.invariant.so
+      so = one_taken g.D.Disk file changes left first wanted (wanted - 1) c.args.last.count change _ _ _ _ _ _ _ _ _ c.loop-wanted.invariant.so
           (ends_in changes left first (omega (arith, less, long)) (c.first_of-first.ensures.ends some)) (omega arith)
           (subst (λ b. Tells (record { was = c.loop-wanted.told.items; now = c.undo_change.new.told.items })
           (λ more. UndoesChange g.D.Disk file change b more course)) c.if-took_place.true c.in_ok-took_place.ensures.undoes);
@@ -70,7 +70,7 @@ loop-wanted-preserved-then-took_place g c =
 pub loop-wanted-preserved : goal.loop-wanted-preserved
 loop-wanted-preserved g c =
     let file = string_bytes c.args.file.now in
-    let changes = c.args.changes.now in
+    let changes = c.args.last.changes.now in
     let left = c.loop-wanted.left in
     let first = c.first_of-first.result in
     let long = length-take-le left changes c.loop-wanted.invariant.within in
@@ -82,7 +82,7 @@ loop-wanted-preserved g c =
     record {
       within = omega (arith, less, long, c.loop-wanted.invariant.within);
       works = beside_both g.D.Disk file _ _ _ _ _ _ c.loop-wanted.invariant.works c.undo_change.ensures.works;
-      so = one_passed g.D.Disk file changes left first c.loop-wanted.wanted c.args.count change _ _ _ _ _ _ _ _ _ c.loop-wanted.invariant.so
+      so = one_passed g.D.Disk file changes left first c.loop-wanted.wanted c.args.last.count change _ _ _ _ _ _ _ _ _ c.loop-wanted.invariant.so
           (ends_in changes left first (omega (arith, less, long)) (c.first_of-first.ensures.ends some))
           (subst (λ b. Tells (record { was = c.loop-wanted.told.items; now = c.undo_change.new.told.items })
           (λ more. UndoesChange g.D.Disk file change b more course)) c.if-took_place.false c.in_ok-took_place.ensures.undoes);
@@ -90,5 +90,5 @@ loop-wanted-preserved g c =
 
 pub returns-clause-undoes : goal.returns-clause-undoes
 returns-clause-undoes g c =
-    last_undone g.D.Disk (string_bytes c.args.file.now) c.args.changes.now c.loop-wanted.left c.loop-wanted.wanted c.args.count _ _ _
+    last_undone g.D.Disk (string_bytes c.args.file.now) c.args.last.changes.now c.loop-wanted.left c.loop-wanted.wanted c.args.last.count _ _ _
     c.loop-wanted.invariant.so (omega arith)

@@ -4,6 +4,6 @@ use Rattle.desk_copies.proofs.disk_copies.sum_part.Goals as goal
 
 pub returns-in-Ok-clause-summed : goal.returns-in-Ok-clause-summed
 returns-in-Ok-clause-summed g c =
-    let size : length c.sum_by.new.room ≡ c.args.some = grind (arith, c.sum_by.ensures.size, c.as_mut_slice.ensures, c.in_ok-room.ensures.len) in
-    part_summed g.D.Disk.honest g.D.Disk.state _ _ c.args.sum.now c.sum_by.new.sum c.args.at c.args.some c.sum_by.new.room size c.in-Ok.ensures.shown
+    let size : length c.sum_by.new.room ≡ c.args.part.size = grind (arith, c.sum_by.ensures.size, c.as_mut_slice.ensures, c.in_ok-room.ensures.len) in
+    part_summed g.D.Disk.honest g.D.Disk.state _ _ c.args.sum.now c.sum_by.new.sum c.args.part.at c.args.part.size c.sum_by.new.room size c.in-Ok.ensures.shown
     c.in-Ok.ensures.summed

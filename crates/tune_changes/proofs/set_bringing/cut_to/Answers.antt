@@ -12,15 +12,15 @@ pub loop-left-preserved : goal.loop-left-preserved
 loop-left-preserved g c = record {
   within = omega arith;
   partly = partly_on g.S.TuneStore _ _ _ _ _ _ _ _ c.loop-left.invariant.partly c.in_ok-cut_place.ensures
-      (λ is_open h same. cut_next c.args.name.now c.args.kept c.loop-left.left (omega arith));
+      (λ is_open h same. cut_next c.args.name.now c.args.places.kept c.loop-left.left (omega arith));
 }
 
 pub returns-in_err-cut_place : goal.returns-in_err-cut_place
 returns-in_err-cut_place g c =
     carries_err g.S.TuneStore _ _ _ _ _ _ _ _ _ c.loop-left.invariant.partly c.in_err-cut_place.ensures
-    (λ is_open h. cut_next c.args.name.now c.args.kept c.loop-left.left (omega arith)) (search rules)
+    (λ is_open h. cut_next c.args.name.now c.args.places.kept c.loop-left.left (omega arith)) (search rules)
 
 pub returns : goal.returns
 returns g c =
     let none : c.loop-left.left ≡ 0 = omega arith in
-    carries_done g.S.TuneStore _ _ _ _ _ _ c.loop-left.invariant.partly (λ is_open h. ap (cut_behind c.args.name.now c.args.kept) none) refl
+    carries_done g.S.TuneStore _ _ _ _ _ _ c.loop-left.invariant.partly (λ is_open h. ap (cut_behind c.args.name.now c.args.places.kept) none) refl

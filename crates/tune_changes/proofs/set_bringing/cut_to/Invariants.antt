@@ -5,8 +5,8 @@ use Rattle.tune_changes.proofs.set_bringing.cut_to.Given as goal
 
 abbrev pub invariant-loop-left : goal.invariant-loop-left
 invariant-loop-left g l = record {
-  within : l.left ≤ l.more;
-  partly : Partly g.S.TuneStore l.fn.store l.store (cut_behind l.name l.kept l.more) (cut_behind l.name l.kept l.left);
+  within : l.left ≤ l.places.more;
+  partly : Partly g.S.TuneStore l.fn.store l.store (cut_behind l.name l.places.kept l.places.more) (cut_behind l.name l.places.kept l.left);
 }
 
 abbrev pub decreases-loop-left : goal.decreases-loop-left
