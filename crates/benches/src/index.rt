@@ -1,7 +1,4 @@
 // The bench of an index on pages.
-ghost use Rattle.std.specs.Prelude.{◌≡◌, false, OnOk, IfOk};
-ghost use Rattle.tune_pages.specs.Work.{Fits};
-
 use crate::entries::{Run, key, next_number};
 use crate::noted::{DiskCall, Noted};
 use crate::pages::{done, make, open};
@@ -14,7 +11,7 @@ use std::io;
 use std::rt::Clock;
 use tune_disk::{Disk, FileDisk, MemoryDisk, UnknownHistory};
 use tune_index::Index;
-use tune_pages::{ClaimFault, Fault, Opening, Pages, Work};
+use tune_pages::{ClaimFault, Edit, Fault, Opening};
 
 /// How many indexes are copied together.
 const COPIES: u32 = 5;
@@ -106,35 +103,23 @@ fn print_calls<R: Print + AllocGlobal, D: Disk>(
 // Builds the lesser index, which asks nothing of a disk.
 fn build<R: Clock + Print + AllocGlobal>(rt: &R, few: u32, shown: Shown) -> Result<Index<32>> {
     let memory = Noted::new(rt.alloc(), MemoryDisk::new(rt.alloc()), false);
-    let mut pages = make(rt.alloc(), memory)?;
+    let mut edit = Edit::over(make(rt.alloc(), memory)?);
     let run = Run::spread(rt.alloc(), few)?;
     let part = Part::begin(rt, "build", shown)?;
-    let index = built(rt.alloc(), &mut pages, &run)?;
+    edit.begin()?;
+    let index = insert_run(rt.alloc(), &mut edit, &run)?;
     part.end(rt, few)?;
     Ok(index)
-}
-
-fn built<D: Disk>(alloc: Global, pages: &mut Pages<Noted<D>>, run: &Run) -> Result<Index<32>, Fault>
-    requires { pages.old.closed ≡ false }
-{
-    let mut work = pages.begin()?;
-    insert_run(alloc, pages, &mut work, run)
 }
 
 // Puts entries into an index that has none.
 fn insert_run<D: Disk>(
     alloc: Global,
-    pages: &mut Pages<Noted<D>>,
-    work: &mut Work,
+    edit: &mut Edit<Noted<D>>,
     run: &Run,
-) -> Result<Index<32>, Fault>
-    requires open { pages.old.closed ≡ false }
-    requires fits { Fits pages.old work.old }
-    ensures open { OnOk result (pages.new.closed ≡ false) }
-    ensures fits { OnOk result (Fits pages.new work.new) }
-{
+) -> Result<Index<32>, Fault> {
     let mut index = Index::new(alloc);
-    match index.insert_all(alloc, pages, work, run.entries()) {
+    match index.insert_all(edit, run.entries()) {
         Ok(()) => Ok(index),
         Err(fault) => Err(fault),
     }
@@ -149,21 +134,19 @@ fn fill<R: Clock + Print + AllocGlobal, D: Disk>(
 ) -> Result<(Noted<D>, u32)> {
     let run = Run::spread(rt.alloc(), many)?;
     let part = Part::begin(rt, "fill", shown)?;
-    let mut pages = make(rt.alloc(), disk)?;
-    let first = store_run(rt.alloc(), &mut pages, &run)?;
-    let disk = pages.into_disk();
+    let mut edit = Edit::over(make(rt.alloc(), disk)?);
+    let first = store_run(rt.alloc(), &mut edit, &run)?;
+    let disk = edit.into_pages().into_disk();
     part.end(rt, first)?;
     Ok((disk, first))
 }
 
 // Puts an index of the entries into the pages; where the list of its leaves begins.
-fn store_run<D: Disk>(alloc: Global, pages: &mut Pages<Noted<D>>, run: &Run) -> Result<u32, Fault>
-    requires { pages.old.closed ≡ false }
-{
-    let mut work = pages.begin()?;
-    let mut index = insert_run(alloc, pages, &mut work, run)?;
-    let first = index.store(alloc, pages, &mut work)?;
-    pages.finish(work)?;
+fn store_run<D: Disk>(alloc: Global, edit: &mut Edit<Noted<D>>, run: &Run) -> Result<u32, Fault> {
+    edit.begin()?;
+    let mut index = insert_run(alloc, edit, run)?;
+    let first = index.store(edit)?;
+    edit.finish()?;
     Ok(first)
 }
 
@@ -175,10 +158,10 @@ fn load<R: Clock + Print + AllocGlobal, D: Disk>(
     shown: Shown,
 ) -> Result<Noted<D>> {
     let part = Part::begin(rt, "load", shown)?;
-    let (pages, _, count) = loaded(rt.alloc(), disk, first)?;
+    let (edit, _, count) = loaded(rt.alloc(), disk, first)?;
     ensure!(count == many, "{count} entries were loaded");
     part.end(rt, count)?;
-    Ok(pages.into_disk())
+    Ok(edit.into_pages().into_disk())
 }
 
 // Opens the pages and loads the index, and counts its entries.
@@ -186,12 +169,10 @@ fn loaded<D: Disk>(
     alloc: Global,
     disk: Noted<D>,
     first: u32,
-) -> Result<(Pages<Noted<D>>, Index<32>, u32)>
-    ensures { IfOk result (λ kept. kept.0.closed ≡ false) }
-{
+) -> Result<(Edit<Noted<D>>, Index<32>, u32)> {
     let mut opening = open(alloc, disk)?;
     let (index, count) = load_index(alloc, &mut opening, first)?;
-    Ok((done(opening)?, index, count))
+    Ok((Edit::over(done(opening)?), index, count))
 }
 
 fn load_index<D: Disk>(
@@ -211,26 +192,23 @@ fn find<R: Clock + Print + AllocGlobal, D: Disk>(
     size: Size,
     shown: Shown,
 ) -> Result<Noted<D>> {
-    let (mut pages, index, _) = loaded(rt.alloc(), disk, first)?;
+    let (mut edit, index, _) = loaded(rt.alloc(), disk, first)?;
     let part = Part::begin(rt, "find", shown)?;
-    let found = find_each(rt.alloc(), &mut pages, &index, size)?;
+    let found = find_each(&mut edit, &index, size)?;
     part.end(rt, found)?;
-    Ok(pages.into_disk())
+    Ok(edit.into_pages().into_disk())
 }
 
 fn find_each<D: Disk>(
-    alloc: Global,
-    pages: &mut Pages<Noted<D>>,
+    edit: &mut Edit<Noted<D>>,
     index: &Index<32>,
     size: Size,
-) -> Result<u32, Fault>
-    requires { pages.old.closed ≡ false }
-{
+) -> Result<u32, Fault> {
     let mut found: u32 = 0;
     let mut number = 1;
     for _ in 0..size.rounds {
         number = next_number(number);
-        let count = find_some(alloc, pages, index, number, size.many)?;
+        let count = find_some(edit, index, number, size.many)?;
         found = found.wrapping_add(count);
     }
     Ok(found)
@@ -238,27 +216,23 @@ fn find_each<D: Disk>(
 
 // Looks for the values of entries that stand beside one another; how many there were.
 fn find_some<D: Disk>(
-    alloc: Global,
-    pages: &mut Pages<Noted<D>>,
+    edit: &mut Edit<Noted<D>>,
     index: &Index<32>,
     number: u32,
     many: u32,
-) -> Result<u32, Fault>
-    requires open { pages.old.closed ≡ false }
-    ensures open { OnOk result (pages.new.closed ≡ false) }
-{
-    let work = pages.begin()?;
+) -> Result<u32, Fault> {
+    edit.begin()?;
     let step = u32::MAX / many.max(1);
     let place = number % many.saturating_sub(SOUGHT).max(1);
     let low = key(place.wrapping_mul(step));
     let high = key(place.wrapping_add(SOUGHT - 1).wrapping_mul(step));
-    match index.candidates(alloc, pages, &work, &low, &high) {
+    match index.candidates(edit, &low, &high) {
         Ok(values) => Ok(u32::try_from(values.len()).unwrap_or(u32::MAX)),
         Err(fault) => Err(fault),
     }
 }
 
-// Puts in entries, each in a work of its own.
+// Puts in entries, each in a change of its own.
 fn add<R: Clock + Print + AllocGlobal, D: Disk>(
     rt: &R,
     disk: Noted<D>,
@@ -266,44 +240,37 @@ fn add<R: Clock + Print + AllocGlobal, D: Disk>(
     rounds: u32,
     shown: Shown,
 ) -> Result<Noted<D>> {
-    let (mut pages, mut index, _) = loaded(rt.alloc(), disk, first)?;
+    let (mut edit, mut index, _) = loaded(rt.alloc(), disk, first)?;
     let part = Part::begin(rt, "add", shown)?;
-    let last = add_each(rt.alloc(), &mut pages, &mut index, rounds)?;
+    let last = add_each(&mut edit, &mut index, rounds)?;
     part.end(rt, last)?;
-    Ok(pages.into_disk())
+    Ok(edit.into_pages().into_disk())
 }
 
 fn add_each<D: Disk>(
-    alloc: Global,
-    pages: &mut Pages<Noted<D>>,
+    edit: &mut Edit<Noted<D>>,
     index: &mut Index<32>,
     rounds: u32,
-) -> Result<u32, Fault>
-    requires { pages.old.closed ≡ false }
-{
+) -> Result<u32, Fault> {
     let mut last = 0;
     let mut number = 1;
     for _ in 0..rounds {
         number = next_number(number);
-        last = add_one(alloc, pages, index, number)?;
+        last = add_one(edit, index, number)?;
     }
     Ok(last)
 }
 
 // Puts in one entry; where the list of leaves begins then.
 fn add_one<D: Disk>(
-    alloc: Global,
-    pages: &mut Pages<Noted<D>>,
+    edit: &mut Edit<Noted<D>>,
     index: &mut Index<32>,
     number: u32,
-) -> Result<u32, Fault>
-    requires open { pages.old.closed ≡ false }
-    ensures open { OnOk result (pages.new.closed ≡ false) }
-{
-    let mut work = pages.begin()?;
-    index.insert(alloc, pages, &mut work, key(number), number)?;
-    let first = index.store(alloc, pages, &mut work)?;
-    pages.finish(work)?;
+) -> Result<u32, Fault> {
+    edit.begin()?;
+    index.insert(edit, key(number), number)?;
+    let first = index.store(edit)?;
+    edit.finish()?;
     Ok(first)
 }
 

@@ -9,7 +9,7 @@
 //! - `index PLACE FEW MANY ROUNDS [times | calls]` has keys of 32 bytes. It builds an index of FEW
 //!   entries from a run of them, without a disk; makes new pages and puts an index of MANY entries
 //!   into them; loads it; looks ROUNDS times for 100 values in it; puts in ROUNDS entries, each in
-//!   a work of its own; and copies five indexes of FEW entries over others, ROUNDS times.
+//!   a change of its own; and copies five indexes of FEW entries over others, ROUNDS times.
 //! - `reading LAYER PASSES [BOOK]` reads each tune of a book so many times, and prints what one
 //!   pass came to. LAYER is `split` (the tunes alone), `fields`, `keys`, `notes` or `steps`.
 //! - `titles KIND PASSES [TITLES]` puts titles, one a line, so many times in the order of an index,

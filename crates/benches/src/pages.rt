@@ -1,6 +1,4 @@
 // The bench of pages.
-ghost use Rattle.std.specs.Prelude.{◌≡◌, false, IfOk};
-
 use crate::part::Part;
 use crate::words::{Place, Shown, number, split_place, split_shown};
 use anyhow::{Result, bail};
@@ -57,9 +55,7 @@ fn run_parts<R: Clock + Print + AllocGlobal, D: Disk>(
 }
 
 /// New pages on a disk.
-pub(crate) fn make<D: Disk>(alloc: Global, disk: D) -> Result<Pages<D>, OpenFault>
-    ensures { IfOk result (λ pages. pages.closed ≡ false) }
-{
+pub(crate) fn make<D: Disk>(alloc: Global, disk: D) -> Result<Pages<D>, OpenFault> {
     match Pages::make(alloc, disk, &PageImage::blank(), LIMIT) {
         Ok(pages) => Ok(pages),
         Err(refused) => Err(refused.why),
@@ -75,9 +71,7 @@ pub(crate) fn open<D: Disk>(alloc: Global, disk: D) -> Result<Opening<D>, OpenFa
 }
 
 /// The pages that were opened.
-pub(crate) fn done<D: Disk>(opening: Opening<D>) -> Result<Pages<D>, OpenFault>
-    ensures { IfOk result (λ pages. pages.closed ≡ false) }
-{
+pub(crate) fn done<D: Disk>(opening: Opening<D>) -> Result<Pages<D>, OpenFault> {
     match opening.done(LIMIT) {
         Ok(pages) => Ok(pages),
         Err(refused) => Err(refused.why),

@@ -1,5 +1,5 @@
 // Changes that are laid on pages of which there may be few.
-ghost use Rattle.std.specs.Prelude.{◌≡◌, ◌<◌, ◌≤◌, List, [], false, IfOk, OnOk};
+ghost use Rattle.std.specs.Prelude.{◌≡◌, ◌<◌, ◌≤◌, List, []};
 ghost use Rattle.tune_store.specs.declared.layout.Layout.TheVariants.{One};
 
 use crate::disks::TestDisk;
@@ -11,7 +11,7 @@ use tiered_vector::TieredVector;
 use tune_contents::{Contents, Room, lay};
 use tune_format::{Firsts, write_root};
 use tune_index::Index;
-use tune_pages::{Fault, Pages};
+use tune_pages::{Edit, Fault, Pages};
 use tune_search::{IncipitNotes, SearchFirsts, SearchIndexes};
 use tune_sets::SetLists;
 use tune_store::{Change, Layout};
@@ -23,7 +23,6 @@ const MARCH: &[u8] = b"T:March\nK:D\nDFA\n";
 // The pages of an archive without tunes, of which there may be so many.
 fn made_up_to<D: TestDisk>(alloc: Global, limit: u32) -> Result<Pages<D>, Fail>
     requires within { (0 < limit) × (limit ≤ 100) }
-    ensures open { IfOk result (λ pages. pages.closed ≡ false) }
 {
     match Pages::make(
         alloc,
@@ -75,43 +74,26 @@ fn text(alloc: Global, bytes: &[u8]) -> Result<TuneText, Fail> {
 }
 
 // Two tunes find no page among these, which stay open.
-fn finds_no_page<D: TestDisk>(alloc: Global, pages: &mut Pages<D>) -> Result<(), Fail>
-    requires open { pages.old.closed ≡ false }
-    ensures open { OnOk result (pages.new.closed ≡ false) }
-{
+fn finds_no_page<D: TestDisk>(alloc: Global, edit: &mut Edit<D>) -> Result<(), Fail> {
     let mut texts = Vec::new(alloc);
     texts.push(text(alloc, LULLABY)?)?;
     texts.push(text(alloc, MARCH)?)?;
     let change = Change::Add { first: 1, texts };
-    let mut work = pages.begin()?;
-    match lay(
-        &mut Room::new(alloc),
-        pages,
-        &mut work,
-        &nothing(alloc),
-        change,
-    ) {
+    edit.begin()?;
+    match lay(&mut Room::new(alloc), edit, &nothing(alloc), change) {
         Err(Fault::FileFull) => Ok(()),
         _ => Err(Fail::from("the file is not full")),
     }
 }
 
 // One tune finds its pages: where all begins then, once they are finished.
-fn finds_pages<D: TestDisk>(alloc: Global, pages: &mut Pages<D>) -> Result<Firsts, Fail>
-    requires open { pages.old.closed ≡ false }
-{
+fn finds_pages<D: TestDisk>(alloc: Global, edit: &mut Edit<D>) -> Result<Firsts, Fail> {
     let mut texts = Vec::new(alloc);
     texts.push(text(alloc, MARCH)?)?;
     let change = Change::Add { first: 1, texts };
-    let mut work = pages.begin()?;
-    let left = lay(
-        &mut Room::new(alloc),
-        pages,
-        &mut work,
-        &nothing(alloc),
-        change,
-    )?;
-    pages.finish(work)?;
+    edit.begin()?;
+    let left = lay(&mut Room::new(alloc), edit, &nothing(alloc), change)?;
+    edit.finish()?;
     Ok(left.firsts)
 }
 
@@ -120,9 +102,9 @@ fn finds_pages<D: TestDisk>(alloc: Global, pages: &mut Pages<D>) -> Result<First
 pub(crate) fn refuses_what_finds_no_page<R: AllocGlobal + Abort, D: TestDisk>(
     rt: &R,
 ) -> Result<(), Fail> {
-    let mut pages = made_up_to::<D>(rt.alloc(), 10)?;
-    finds_no_page(rt.alloc(), &mut pages)?;
-    let left = finds_pages(rt.alloc(), &mut pages)?;
+    let mut edit = Edit::over(made_up_to::<D>(rt.alloc(), 10)?);
+    finds_no_page(rt.alloc(), &mut edit)?;
+    let left = finds_pages(rt.alloc(), &mut edit)?;
     assert_eq!(rt; left, firsts([3, 7, 0, 8, 9, 0]));
     Ok(())
 }

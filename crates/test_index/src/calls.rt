@@ -8,7 +8,7 @@ pub(crate) enum Call<'a> {
     Opening(OpeningCall<'a>),
     Done(u32),
     Begin,
-    Work(WorkCall<'a>),
+    Edit(EditCall<'a>),
     Finish,
     Index(IndexCall<'a>),
     Close,
@@ -30,9 +30,9 @@ pub(crate) enum OpeningCall<'a> {
     Load(u32, u32, &'a str),
 }
 
-/// A call of a work.
+/// A call of a change of pages.
 #[derive(Clone, Copy)]
-pub(crate) enum WorkCall<'a> {
+pub(crate) enum EditCall<'a> {
     Allocate,
     PutLeaf(u32, u16, &'a str),
     PutChain(&'a str),
@@ -40,7 +40,7 @@ pub(crate) enum WorkCall<'a> {
     InUse(u32),
 }
 
-/// A call of an index with a work.
+/// A call of an index in a change of pages.
 #[derive(Clone, Copy)]
 pub(crate) enum IndexCall<'a> {
     Insert(&'a str),
@@ -80,7 +80,7 @@ impl<'a> Call<'a> {
         if let Some(call) = IndexCall::read(name, words) {
             return Some(Call::Index(call));
         }
-        Some(Call::Work(WorkCall::read(name, words)?))
+        Some(Call::Edit(EditCall::read(name, words)?))
     }
 }
 
@@ -106,16 +106,16 @@ impl<'a> OpeningCall<'a> {
     }
 }
 
-impl<'a> WorkCall<'a> {
-    fn read(name: &str, mut words: Words<'a>) -> Option<WorkCall<'a>> {
+impl<'a> EditCall<'a> {
+    fn read(name: &str, mut words: Words<'a>) -> Option<EditCall<'a>> {
         match name {
-            "allocate" => Some(WorkCall::Allocate),
-            "put-leaf" => { Some(WorkCall::PutLeaf(words.number()?, words.short()?, words.rest())) }
-            "put-chain" => Some(WorkCall::PutChain(words.rest())),
+            "allocate" => Some(EditCall::Allocate),
+            "put-leaf" => { Some(EditCall::PutLeaf(words.number()?, words.short()?, words.rest())) }
+            "put-chain" => Some(EditCall::PutChain(words.rest())),
             "read-bytes" => {
-                Some(WorkCall::ReadBytes(words.number()?, words.size()?, words.size()?))
+                Some(EditCall::ReadBytes(words.number()?, words.size()?, words.size()?))
             }
-            "in-use" => Some(WorkCall::InUse(words.number()?)),
+            "in-use" => Some(EditCall::InUse(words.number()?)),
             _ => None,
         }
     }

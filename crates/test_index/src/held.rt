@@ -3,16 +3,15 @@ ghost use Rattle.std.specs.Prelude.{◌≤◌, ◌↔◌, IsTrue};
 
 use crate::calls::{Call, DiskCall, KeepCall};
 use crate::disks::InMemory;
+use crate::edits::call_edit;
 use crate::indexes::call_index;
 use crate::openings::{call_opening, end_opening};
-use crate::works::{call_work, finish};
 use std::alloc::Global;
-use std::marker::Model;
 use std::mem;
 use test_cases::{Answer, Words};
 use tune_index::Index;
 use tune_journal::PageImage;
-use tune_pages::{Fault, Opening, Pages, Work};
+use tune_pages::{Edit, Fault, Opening, Pages};
 
 /// The most pages that there may be.
 const MOST_PAGES: u32 = 4_000_000;
@@ -30,28 +29,7 @@ pub(crate) struct Held<const W: usize> {
 pub(crate) enum File {
     Disk(InMemory),
     Opening(Opening<InMemory>),
-    Pages(Pages<InMemory>),
-    Begun(Begun),
-}
-
-/// Pages that are open, and a work that was begun on them.
-#[derive(Drop)]
-pub(crate) struct Begun {
-    pub(crate) pages: Pages<InMemory>,
-    pub(crate) work: Work,
-}
-
-// The work fits the pages. No contract sees more of them.
-impl Model for Begun {
-    ghost use Rattle.std.specs.Prelude.{◌≡◌, false};
-    ghost use Rattle.tune_pages.specs.Work.{Fits};
-
-    ghost Value = { Unit {0} };
-
-    ghost view = { λ _. tt {0} };
-
-    ghost invariant = { λ begun.
-        Fits begun.pages begun.work × (begun.pages.closed ≡ false) };
+    Edit(Edit<InMemory>),
 }
 
 impl File {
@@ -60,8 +38,7 @@ impl File {
         match self {
             File::Disk(disk) => disk,
             File::Opening(opening) => opening.into_disk(),
-            File::Pages(pages) => pages.into_disk(),
-            File::Begun(Begun { pages, work: _ }) => pages.into_disk(),
+            File::Edit(edit) => edit.into_pages().into_disk(),
         }
     }
 }
@@ -134,24 +111,49 @@ fn make_call<const W: usize>(
     requires { W ≤ 4090 }
 {
     match (file, call) {
+        (file, Call::Close) => {
+            answer.say("done");
+            File::Disk(file.into_disk())
+        }
         (File::Disk(disk), Call::Disk(call)) => call_disk(alloc, disk, call, answer),
         (File::Opening(opening), Call::Opening(call)) => {
             call_opening(alloc, opening, index, call, answer)
         }
         (File::Opening(opening), Call::Done(limit)) => end_opening(opening, limit, answer),
-        (File::Pages(pages), Call::Begin) => begin(pages, answer),
-        (File::Begun(Begun { pages, work: _ }), Call::Begin) => begin(pages, answer),
-        (File::Begun(begun), Call::Work(call)) => call_work::<W>(alloc, begun, call, answer),
-        (File::Begun(begun), Call::Index(call)) => call_index(alloc, begun, index, call, answer),
-        (File::Begun(begun), Call::Finish) => finish(begun, answer),
-        (file, Call::Close) => {
-            answer.say("done");
-            File::Disk(file.into_disk())
+        (File::Edit(mut edit), call) => {
+            call_pages(alloc, &mut edit, index, call, answer);
+            File::Edit(edit)
         }
         (file, _) => {
             answer.say("not in hand");
             file
         }
+    }
+}
+
+// Makes a call of pages, of a change of them, or of the index.
+fn call_pages<const W: usize>(
+    alloc: Global,
+    edit: &mut Edit<InMemory>,
+    index: &mut Index<W>,
+    call: Call<'_>,
+    answer: &mut Answer,
+)
+    requires { W ≤ 4090 }
+{
+    match call {
+        Call::Begin => show_done(edit.begin(), answer),
+        Call::Finish => show_done(edit.finish(), answer),
+        Call::Edit(call) => call_edit::<W>(alloc, edit, call, answer),
+        Call::Index(call) => call_index(alloc, edit, index, call, answer),
+        _ => answer.say("not in hand"),
+    }
+}
+
+fn show_done(done: Result<(), Fault>, answer: &mut Answer) {
+    match done {
+        Ok(()) => answer.say("done"),
+        Err(fault) => answer.name(fault),
     }
 }
 
@@ -200,19 +202,6 @@ fn in_place_of<const W: usize>(alloc: Global, index: &Index<W>) -> Index<W>
     Index::in_place_of(alloc, &between)
 }
 
-fn begin(pages: Pages<InMemory>, answer: &mut Answer) -> File {
-    match pages.begin() {
-        Ok(work) => {
-            answer.say("done");
-            File::Begun(Begun { pages, work })
-        }
-        Err(fault) => {
-            answer.name(fault);
-            File::Pages(pages)
-        }
-    }
-}
-
 fn call_disk(alloc: Global, disk: InMemory, call: DiskCall, answer: &mut Answer) -> File {
     match call {
         DiskCall::Failing(call) => put_disk(disk.failing(call), answer),
@@ -236,7 +225,7 @@ fn make(alloc: Global, disk: InMemory, limit: u32, answer: &mut Answer) -> File 
     match Pages::make(alloc, disk, &PageImage::blank(), limit) {
         Ok(pages) => {
             answer.say("done");
-            File::Pages(pages)
+            File::Edit(Edit::over(pages))
         }
         Err(refused) => {
             answer.name(refused.why);

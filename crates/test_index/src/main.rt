@@ -15,15 +15,15 @@
 //!
 //! Those of an opening are `claim-page PAGE`, `load FIRST MOST ENTRIES`, which answers whether the
 //! index that is loaded has these entries, and `done LIMIT`, which gives the pages. `begin` begins
-//! a work on pages, and drops the one that was begun before.
+//! a change of pages, and drops the one that was begun before.
 //!
-//! Those of a work are `allocate`, `put-leaf PAGE COUNT ENTRIES`, a leaf that somebody forged,
+//! Those of a change are `allocate`, `put-leaf PAGE COUNT ENTRIES`, a leaf that somebody forged,
 //! `put-chain DIGITS`, `read-bytes PAGE FROM TO`, `in-use COUNT` (which of the first pages are in
-//! use: `+`, or else `-`), and `finish`.
+//! use: `+`, or else `-`), and `finish`. One that was refused has ended the change.
 //!
 //! Those of the index are `insert ENTRIES` and `remove ENTRIES`, one after the other, `insert-all
 //! ENTRIES`, `clear`, `candidates LOW HIGH`, which shows the values, and `store`. Where one is
-//! refused the work is dropped, and the index is one without an entry. `new` makes it so too, and
+//! refused the change has ended, and the index is one without an entry. `new` makes it so too, and
 //! `in-place` puts one without an entry in its place, which keeps its list until it is stored.
 //! There is another index in hand: `copy` makes it a copy anew, `copy-from` in the memory that it
 //! has, and `swap` has the calls go to it.
@@ -35,12 +35,12 @@
 
 mod calls;
 mod disks;
+mod edits;
 mod entries;
 mod hands;
 mod held;
 mod indexes;
 mod openings;
-mod works;
 
 use hands::Hand;
 use std::io;

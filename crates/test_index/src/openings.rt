@@ -8,7 +8,7 @@ use crate::held::{File, is_limit};
 use std::alloc::Global;
 use test_cases::Answer;
 use tune_index::{Index, IndexKey};
-use tune_pages::{Fault, Opening};
+use tune_pages::{Edit, Fault, Opening};
 
 // Makes a call of an opening, and writes its answer.
 pub(crate) fn call_opening<const W: usize>(
@@ -80,7 +80,7 @@ pub(crate) fn end_opening(opening: Opening<InMemory>, limit: u32, answer: &mut A
     match opening.done(limit) {
         Ok(pages) => {
             answer.say("done");
-            File::Pages(pages)
+            File::Edit(Edit::over(pages))
         }
         Err(refused) => {
             answer.name(refused.why);

@@ -11,6 +11,7 @@ pub(crate) enum Call<'a> {
     Limit(u32),
     Begin,
     Work(WorkCall<'a>),
+    Edit(EditCall),
     Finish,
     Close,
 }
@@ -53,6 +54,15 @@ pub(crate) enum WorkCall<'a> {
     InUse(u32),
 }
 
+/// A call of an edit that a work has not, and that by which pages are held as one.
+#[derive(Clone, Copy)]
+pub(crate) enum EditCall {
+    Over,
+    End,
+    Check,
+    Refuse,
+}
+
 impl<'a> Call<'a> {
     // The call of a name, if it is one.
     pub(crate) fn read(name: &str, mut words: Words<'a>) -> Option<Call<'a>> {
@@ -69,6 +79,9 @@ impl<'a> Call<'a> {
         }
         if let Some(call) = OpeningCall::read(name, words) {
             return Some(Call::Opening(call));
+        }
+        if let Some(call) = EditCall::read(name) {
+            return Some(Call::Edit(call));
         }
         Some(Call::Work(WorkCall::read(name, words)?))
     }
@@ -123,6 +136,18 @@ impl<'a> WorkCall<'a> {
             "read-chain" => Some(WorkCall::ReadChain(words.number()?)),
             "is-asked-again" => Some(WorkCall::IsAskedAgain(words.number()?)),
             "in-use" => Some(WorkCall::InUse(words.number()?)),
+            _ => None,
+        }
+    }
+}
+
+impl EditCall {
+    fn read(name: &str) -> Option<EditCall> {
+        match name {
+            "edit" => Some(EditCall::Over),
+            "end" => Some(EditCall::End),
+            "check" => Some(EditCall::Check),
+            "refuse" => Some(EditCall::Refuse),
             _ => None,
         }
     }

@@ -1,8 +1,9 @@
 // What a case has in hand, and the calls that change what it is.
 ghost use Rattle.std.specs.Prelude.{◌≤◌, ◌↔◌, IsTrue};
 
-use crate::calls::{Call, DiskCall};
+use crate::calls::{Call, DiskCall, EditCall};
 use crate::disks::InMemory;
+use crate::edits::call_edit;
 use crate::openings::{call_opening, end_opening};
 use crate::works::{call_work, finish, page_of};
 use std::alloc::Global;
@@ -10,7 +11,7 @@ use std::marker::Model;
 use std::{io, mem};
 use test_cases::{Answer, Bench, Bytes, Words, no_data};
 use tune_disk::{Disk, StopChoice};
-use tune_pages::{Fault, Opening, Pages, Work};
+use tune_pages::{Edit, Fault, Opening, Pages, Work};
 
 /// The most pages that there may be.
 const MOST_PAGES: u32 = 4_000_000;
@@ -29,6 +30,7 @@ pub(crate) enum Held {
     Opening(Opening<InMemory>),
     Pages(Pages<InMemory>),
     Begun(Begun),
+    Edit(Edit<InMemory>),
 }
 
 /// Pages, and a work that was begun on them.
@@ -91,6 +93,7 @@ impl Held {
             Held::Opening(opening) => opening.into_disk(),
             Held::Pages(pages) => pages.into_disk(),
             Held::Begun(Begun { pages, work: _ }) => pages.into_disk(),
+            Held::Edit(edit) => edit.into_pages().into_disk(),
         }
     }
 }
@@ -119,6 +122,14 @@ fn make_call(alloc: Global, held: Held, call: Call<'_>, answer: &mut Answer) -> 
         (held, Call::Close) => {
             answer.say("done");
             Held::Disk(held.into_disk())
+        }
+        (Held::Pages(pages), Call::Edit(EditCall::Over)) => {
+            answer.say("done");
+            Held::Edit(Edit::over(pages))
+        }
+        (Held::Edit(mut edit), call) => {
+            call_edit(alloc, &mut edit, call, answer);
+            Held::Edit(edit)
         }
         (held, _) => {
             answer.say("not in hand");

@@ -28,6 +28,10 @@
 //! `finish`, and `put-link PAGE NEXT SIZE`, a page of a chain that somebody forged, of bytes 0x41.
 //! A work of which a call is refused is dropped.
 //!
+//! `edit` holds pages as an edit of them. It takes `limit`, `begin`, `finish`, and the calls of a
+//! work but for `put-link` and `is-asked-again`; `end`, `check` (whether the change goes on), and
+//! `refuse`, as where a caller has no memory.
+//!
 //! `close` hands the disk back. The form of bytes is that of `test_cases::Bytes`. The program
 //! prints a line for each case, and how many came out as written; where one did not, it ends with
 //! status 1.
@@ -35,6 +39,7 @@
 
 mod calls;
 mod disks;
+mod edits;
 mod held;
 mod openings;
 mod works;
@@ -45,7 +50,9 @@ use std::process::ExitCode;
 use test_cases::{Form, try_files};
 
 /// The files of cases.
-const FILES: [&str; 6] = ["chains", "works", "claims", "stops", "faults", "cache"];
+const FILES: [&str; 7] = [
+    "chains", "works", "edits", "claims", "stops", "faults", "cache",
+];
 
 const FORM: Form = Form {
     separator: " = ",

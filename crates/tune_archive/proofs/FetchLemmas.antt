@@ -31,7 +31,8 @@ use Rattle.tune_archive.specs.Shelf.{Shelf, state_of, state_on}
 use Rattle.tune_contents.specs.Texts.{HoldsText, HoldsSomeText}
 use Rattle.tune_archive.specs.Inside.Fetching.{HasFetched, Fetches}
 use Rattle.tune_archive.specs.declared.archive.Fetched.{Fetched}
-use Rattle.tune_archive.specs.Inside.Holding.{stand_of, IsShelf}
+use Rattle.tune_pages.specs.Edited.{stand_of}
+use Rattle.tune_archive.specs.Inside.Holding.{IsShelf}
 
 -- LABELS
 -- the labels of rows rise with them

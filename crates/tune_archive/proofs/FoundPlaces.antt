@@ -21,7 +21,8 @@ use Rattle.tune_format.specs.Filed.{numbered_texts}
 use Rattle.tune_contents.specs.Holds.{HoldsContents, labels_in}
 use Rattle.tune_contents.specs.declared.contents.Contents.{Contents}
 use Rattle.tune_archive.specs.Shelf.{Shelf, state_of}
-use Rattle.tune_archive.specs.Inside.Holding.{stand_of, IsShelf}
+use Rattle.tune_pages.specs.Edited.{stand_of}
+use Rattle.tune_archive.specs.Inside.Holding.{IsShelf}
 use Rattle.tune_archive.proofs.FetchLemmas.{labels_held}
 
 -- THE INDEXES

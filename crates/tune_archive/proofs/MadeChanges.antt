@@ -17,14 +17,14 @@ use Rattle.tune_store.specs.declared.plans.Change.{Change}
 use Rattle.tune_format.specs.RootOffsets.{most_pages_of}
 use Rattle.tune_format.specs.States.{IsStateOf, Holds, state_in}
 use Rattle.tune_format.proofs.StateLemmas.{file_read, either_state}
-use Rattle.tune_index.specs.IndexAnswers.{IsEditFault}
 use Rattle.tune_contents.specs.Claimed.{AreRows}
 use Rattle.tune_contents.specs.Holds.{HoldsContents, HoldsMemory, Memory, memory_of}
 use Rattle.tune_contents.specs.declared.contents.Contents.{Contents}
 use Rattle.tune_archive.specs.Shelf.{Shelf, state_on, state_of, StandsForOneOf}
-use Rattle.tune_archive.specs.Inside.Changing.{CallsWhere, PassesChange, PassesLaid, HasLaid, StaysKept, StaysWithin}
+use Rattle.tune_archive.specs.Inside.Changing.{CallsWhere, PassesChange, PassesLaid, HasLaid, StaysKept, StaysWithin, IsPagesFault}
 use Rattle.tune_archive.specs.Inside.Changing.{IsUnmadeChange, MakesChange, refusal_of_pages, closes}
-use Rattle.tune_archive.specs.Inside.Holding.{stand_of, HoldsState, IsShelf}
+use Rattle.tune_pages.specs.Edited.{stand_of}
+use Rattle.tune_archive.specs.Inside.Holding.{HoldsState, IsShelf}
 use Rattle.tune_archive.proofs.MorePages.{no_fewer}
 
 -- what a disk tells, as the one value that definitions take
@@ -198,9 +198,9 @@ module _ {D : Type 0} (honest : D → Type 0) (failures : D → ℕ) (state : D 
 
   -- what was refused
   module _ (fault : Fault) (calls : CallsWhere {T = Unit {0}} honest failures (Err fault) old.pages.disk new.pages.disk)
-      (shuts : new.closed ≡ closes fault) (answer : IsEditFault fault new.pages.closed (Unit {0}))
+      (shuts : new.closed ≡ closes fault) (answer : IsPagesFault fault new.pages.closed)
       (stays : fault ≢ Device → StaysKept honest state old.pages new.pages) (never : HonestAt honest new.pages.disk → fault ≢ FileFull) where
-    stays_open : (fault : Fault) → new.closed ≡ closes fault → IsEditFault fault new.pages.closed (Unit {0})
+    stays_open : (fault : Fault) → new.closed ≡ closes fault → IsPagesFault fault new.pages.closed
         → (fault ≢ Device → StaysKept honest state old.pages new.pages) → new.closed ≡ false
         → StaysKept honest state old.pages new.pages × (new.pages.closed ≡ false)
     stays_open FileFull is answer stays e = absurd (let no : true ≡ false = sym is ∙ e in cc)
@@ -222,7 +222,7 @@ module _ {D : Type 0} (honest : D → Type 0) (failures : D → ℕ) (state : D 
     kept_shelf contents is = subst (λ (c : Contents). IsShelf honest state new.pages c new.closed) (sym is) kept_here
 
     why_unmade : (fault : Fault) → CallsWhere {T = Unit {0}} honest failures (Err fault) old.pages.disk new.pages.disk
-        → new.closed ≡ closes fault → IsEditFault fault new.pages.closed (Unit {0}) → (fault ≢ Device → StaysKept honest state old.pages new.pages)
+        → new.closed ≡ closes fault → IsPagesFault fault new.pages.closed → (fault ≢ Device → StaysKept honest state old.pages new.pages)
         → (HonestAt honest new.pages.disk → fault ≢ FileFull) → IsUnmadeChange (disks_of honest failures state) (refusal_of_pages fault) old new change
     why_unmade FileFull calls is answer stays never = inr (refl, is, (λ h. absurd (never h refl)), (λ h. absurd (never h refl)))
     why_unmade OutOfMemory calls is answer stays never = inl (refl, is, (stays (λ same. cc)).disk)

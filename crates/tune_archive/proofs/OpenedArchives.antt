@@ -42,7 +42,8 @@ use Rattle.tune_contents.specs.Claimed.{AreRows, IsClaimed}
 use Rattle.tune_contents.specs.Holds.{HoldsContents, KeepsTexts}
 use Rattle.tune_contents.specs.declared.contents.Contents.{Contents}
 use Rattle.tune_contents.proofs.ClaimListLemmas.{state_some}
-use Rattle.tune_archive.specs.Inside.Holding.{stand_of, HoldsState, IsShelf}
+use Rattle.tune_pages.specs.Edited.{stand_of}
+use Rattle.tune_archive.specs.Inside.Holding.{HoldsState, IsShelf}
 use Rattle.tune_archive.specs.Inside.Opening.{IsUnclaimedFor}
 use Rattle.tune_archive.specs.OpenedArchive.{disk_left_of, StandsForNoneOrEmpty, KeepsStates, IsUnopenedArchiveFor}
 use Rattle.tune_archive.specs.Shelf.{Shelf, IsSound, state_on, StandsForOneOf}

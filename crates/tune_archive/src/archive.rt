@@ -13,7 +13,7 @@ use std::marker::Model;
 use thiserror::Error;
 use tune_contents::{Contents, Room};
 use tune_disk::Disk;
-use tune_pages::Pages;
+use tune_pages::{Edit, Pages};
 
 /// The text of the tune at a place.
 #[derive(Drop)]
@@ -28,7 +28,7 @@ pub(crate) struct Fetched {
 #[derive(Drop)]
 pub struct Archive<D: Disk> {
     pub(crate) alloc: Global,
-    pub(crate) pages: Pages<D>,
+    pub(crate) edit: Edit<D>,
     pub(crate) contents: Contents,
     pub(crate) room: Room,
     // the text that was read last
@@ -43,13 +43,13 @@ impl<D: Disk> Model for Archive<D> {
     ghost Value = { Shelf D };
 
     ghost view = { λ a. record {
-      pages = a.pages;
+      pages = a.edit.base;
       contents = a.contents;
       fetched = a.fetched;
       closed = a.closed;
     } };
 
-    ghost invariant = { λ a. IsShelf D.honest D.state a.pages a.contents a.closed };
+    ghost invariant = { λ a. IsShelf D.honest D.state a.edit.base a.contents a.closed };
 }
 
 /// What an archive in a file holds, in numbers.
@@ -78,7 +78,7 @@ impl<D: Disk> Archive<D> {
     {
         Archive {
             alloc,
-            pages,
+            edit: Edit::over(pages),
             contents,
             room: Room::new(alloc),
             fetched: None,
@@ -119,12 +119,12 @@ impl<D: Disk> Archive<D> {
     {
         let Archive {
             alloc: _,
-            pages,
+            edit,
             contents: _,
             room: _,
             fetched: _,
             closed: _,
         } = self;
-        pages.into_disk()
+        edit.into_pages().into_disk()
     }
 }

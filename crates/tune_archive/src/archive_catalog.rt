@@ -7,15 +7,14 @@ ghost use Rattle.tune_parts.specs.Parts.{Part};
 ghost use Rattle.tune_queries.specs.Queries.{finds};
 ghost use Rattle.tune_search.specs.Searches.{HoldsSomeTexts, HoldsTexts, SearchParts};
 ghost use Rattle.tune_contents.specs.Texts.{HoldsSomeText, HoldsText};
-ghost use Rattle.tune_archive.specs.Inside.Holding.{stand_of};
+ghost use Rattle.tune_pages.specs.Edited.{stand_of};
 
 use crate::archive::{Archive, Fetched};
 use crate::places::places_of_numbers;
 use abc_fields::TuneText;
-use std::alloc::Global;
 use tune_contents::{place_of, read_tune};
 use tune_disk::Disk;
-use tune_pages::{Fault, Pages};
+use tune_pages::{Edit, Fault};
 use tune_queries::Sought;
 use tune_search::SearchIndexes;
 use tune_sets::SetLists;
@@ -134,7 +133,7 @@ impl<D: Disk> Catalog for Archive<D> {
         let layout = self.contents.layout;
         let first = self.contents.rows.at(place).first;
         self.fetched = None;
-        match read_text(self.alloc, &mut self.pages, layout, first) {
+        match read_text(&mut self.edit, layout, first) {
             Ok(text) => {
                 self.fetched = Some(Fetched { place, text });
                 Ok(())
@@ -158,7 +157,7 @@ impl<D: Disk> Catalog for Archive<D> {
         if self.closed {
             return Err(Refusal::Device);
         }
-        match values_for(self.alloc, &mut self.pages, &self.contents.searches, sought) {
+        match values_for(&mut self.edit, &self.contents.searches, sought) {
             Ok(numbers) => Ok(places_of_numbers(self.alloc, &self.contents.rows, numbers)?),
             Err(Fault::OutOfMemory) => Err(Refusal::OutOfMemory),
             Err(_) => {
@@ -170,44 +169,38 @@ impl<D: Disk> Catalog for Archive<D> {
 }
 
 // Reads the text of the tune whose chain begins at `first`.
-fn read_text<D: Disk>(
-    alloc: Global,
-    pages: &mut Pages<D>,
-    layout: Layout,
-    first: u32,
-) -> Result<TuneText, Fault>
-    requires open { pages.old.closed ≡ false }
-    requires there { HonestAt D.honest pages.old.disk
-        → HoldsSomeText layout (stand_of pages.old) first }
-    ensures text { IfOk result (λ text. HonestAt D.honest pages.new.disk → (revision : ℕ)
-        (other : List ℕ) → HoldsText layout (stand_of pages.old) first revision other
-        → text ≡ other) }
-    ensures looks { LooksAt D.honest D.failures D.state result pages.old pages.new }
-    ensures answer { AnswersRead result pages.old.closed pages.new.closed }
+fn read_text<D: Disk>(edit: &mut Edit<D>, layout: Layout, first: u32) -> Result<TuneText, Fault>
+    requires open { edit.old.base.closed ≡ false }
+    requires there { HonestAt D.honest edit.old.base.disk
+        → HoldsSomeText layout (stand_of edit.old.base) first }
+    ensures text { IfOk result (λ text. HonestAt D.honest edit.new.base.disk
+        → (revision : ℕ) (other : List ℕ)
+        → HoldsText layout (stand_of edit.old.base) first revision other → text ≡ other) }
+    ensures looks { LooksAt D.honest D.failures D.state result edit.old.base edit.new.base }
+    ensures answer { AnswersRead result edit.old.base.closed edit.new.base.closed }
 {
-    let work = pages.begin()?;
-    read_tune(alloc, pages, &work, layout, first)
+    edit.begin()?;
+    read_tune(edit, layout, first)
 }
 
 // The numbers of tunes at which a query is to be tried: that of each tune that it finds is among
 // them.
 fn values_for<D: Disk>(
-    alloc: Global,
-    pages: &mut Pages<D>,
+    edit: &mut Edit<D>,
     searches: &SearchIndexes,
     sought: &Sought<'_>,
 ) -> Result<Vec<u32>, Fault>
-    requires open { pages.old.closed ≡ false }
-    requires holds { HonestAt D.honest pages.old.disk
-        → HoldsSomeTexts (stand_of pages.old) searches.now }
-    ensures finds { IfOk result (λ values. HonestAt D.honest pages.new.disk
+    requires open { edit.old.base.closed ≡ false }
+    requires holds { HonestAt D.honest edit.old.base.disk
+        → HoldsSomeTexts (stand_of edit.old.base) searches.now }
+    ensures finds { IfOk result (λ values. HonestAt D.honest edit.new.base.disk
         → (before after : List Part) (parts : SearchParts) (tunes : List (ℕ × List ℕ))
-        → HoldsTexts (stand_of pages.old) searches.now before after parts tunes
+        → HoldsTexts (stand_of edit.old.base) searches.now before after parts tunes
         → (tune : ℕ × List ℕ) → Contains tunes tune
         → finds searches.now.notes sought.now tune.1 ≡ true → Contains values.items tune.0) }
-    ensures looks { LooksAt D.honest D.failures D.state result pages.old pages.new }
-    ensures answer { AnswersRead result pages.old.closed pages.new.closed }
+    ensures looks { LooksAt D.honest D.failures D.state result edit.old.base edit.new.base }
+    ensures answer { AnswersRead result edit.old.base.closed edit.new.base.closed }
 {
-    let work = pages.begin()?;
-    searches.candidates(alloc, pages, &work, sought)
+    edit.begin()?;
+    searches.candidates(edit, sought)
 }

@@ -1,7 +1,6 @@
 // A change of an archive, made on its pages.
 ghost use Rattle.std.specs.Prelude.{◌≡◌, ◌≢◌, ◌≤◌, ◌-◌, ◌++◌, false, length, replicate};
 ghost use Rattle.std.specs.Prelude.{IfErr, OnErr, OnOk};
-ghost use Rattle.tune_index.specs.IndexAnswers.{AnswersEdit};
 ghost use Rattle.tune_contents.specs.Claimed.{AreRows};
 ghost use Rattle.tune_contents.specs.Holds.{labels_in, HoldsSomeState};
 ghost use Rattle.tune_pages.specs.Kept.{HonestAt, state_at};
@@ -12,14 +11,14 @@ ghost use Rattle.tune_store.specs.State.{IsState};
 ghost use Rattle.tune_archive.specs.Shelf.{state_of};
 ghost use Rattle.tune_archive.specs.Inside.Changing.{CallsWhere, PassesChange, HasLaid, StaysKept};
 ghost use Rattle.tune_archive.specs.Inside.Changing.{StaysWithin, refusal_of_pages, closes};
-ghost use Rattle.tune_archive.specs.Inside.Changing.{MakesChange};
-ghost use Rattle.tune_archive.specs.Inside.Holding.{stand_of};
+ghost use Rattle.tune_archive.specs.Inside.Changing.{AnswersPages, MakesChange};
+ghost use Rattle.tune_pages.specs.Edited.{stand_of};
 
 use crate::archive::Archive;
 use tune_contents::{Contents, Room, law_of_state_pages, lay};
 use tune_disk::Disk;
 use tune_format::most_pages;
-use tune_pages::{Fault, Pages};
+use tune_pages::{Edit, Fault};
 use tune_store::{Change, Layout, Refusal};
 
 // The refusal that tells of a fault of pages. No archive that a device keeps as it was written
@@ -42,61 +41,63 @@ fn closes(fault: Fault) -> bool
 }
 
 // Lets there be as many pages as an archive of this layout may have, where there were no more.
-fn give_pages<D: Disk>(pages: &mut Pages<D>, layout: Layout)
-    requires open { pages.old.closed ≡ false }
-    requires marks { length pages.old.used ≤ most_pages_of layout }
-    ensures marks { length pages.new.used ≡ most_pages_of layout }
-    ensures more { pages.new.used ≡ pages.old.used
-        ++ replicate (most_pages_of layout - length pages.old.used) false }
-    ensures same { (pages.new.disk ≡ pages.old.disk) × (pages.new.pages ≡ pages.old.pages)
-        × (pages.new.closed ≡ false) }
+fn give_pages<D: Disk>(edit: &mut Edit<D>, layout: Layout)
+    requires open { edit.old.base.closed ≡ false }
+    requires marks { length edit.old.base.used ≤ most_pages_of layout }
+    ensures marks { length edit.new.base.used ≡ most_pages_of layout }
+    ensures more { edit.new.base.used
+        ≡ edit.old.base.used ++ replicate (most_pages_of layout - length edit.old.base.used) false }
+    ensures same { (edit.new.base.disk ≡ edit.old.base.disk)
+        × (edit.new.base.pages ≡ edit.old.base.pages) × (edit.new.base.closed ≡ false) }
 {
     // For the proof: its contract says that there are no more pages than there may be.
-    let _limit = pages.limit();
-    pages.set_limit(most_pages(layout));
+    let _limit = edit.limit();
+    edit.set_limit(most_pages(layout));
 }
 
-// Makes a change in one work, whole or not at all. What is kept in memory changes once it is made.
+// Makes a change in one edit, whole or not at all. What is kept in memory changes once it is made.
 fn change_pages<D: Disk>(
     room: &mut Room,
-    pages: &mut Pages<D>,
+    edit: &mut Edit<D>,
     contents: &mut Contents,
     change: Change,
 ) -> Result<(), Fault>
-    requires open { pages.old.closed ≡ false }
+    requires open { edit.old.base.closed ≡ false }
     requires possible { CanChange change contents.old.layout
         (labels_in contents.old.rows.items) contents.old.sets }
-    requires holds { HonestAt D.honest pages.old.disk
-        → HoldsSomeState (stand_of pages.old) contents.old }
+    requires holds { HonestAt D.honest edit.old.base.disk
+        → HoldsSomeState (stand_of edit.old.base) contents.old }
     requires rows { AreRows contents.old.layout contents.old.rows.items }
-    requires few { HonestAt D.honest pages.old.disk
-        → length pages.old.pages ≤ length pages.old.used }
-    requires many { length pages.old.used ≡ most_pages_of contents.old.layout }
-    requires within { HonestAt D.honest pages.old.disk
-        → StaysWithin (stand_of pages.old) contents.old change }
-    ensures calls { CallsWhere D.honest D.failures result pages.old.disk pages.new.disk }
-    ensures moments { HonestAt D.honest pages.new.disk → PassesChange
-        (state_at D.state pages.old.disk) (state_at D.state pages.new.disk) (stand_of pages.old)
-        contents.old change }
-    ensures laid { OnOk result (HonestAt D.honest pages.new.disk
-        → HasLaid D.state pages.old pages.new contents.old contents.new change) }
+    requires few { HonestAt D.honest edit.old.base.disk
+        → length edit.old.base.pages ≤ length edit.old.base.used }
+    requires many { length edit.old.base.used ≡ most_pages_of contents.old.layout }
+    requires within { HonestAt D.honest edit.old.base.disk
+        → StaysWithin (stand_of edit.old.base) contents.old change }
+    ensures calls { CallsWhere D.honest D.failures result edit.old.base.disk edit.new.base.disk }
+    ensures moments { HonestAt D.honest edit.new.base.disk
+        → PassesChange (state_at D.state edit.old.base.disk)
+        (state_at D.state edit.new.base.disk) (stand_of edit.old.base) contents.old change }
+    ensures laid { OnOk result (HonestAt D.honest edit.new.base.disk
+        → HasLaid D.state edit.old.base edit.new.base contents.old contents.new change) }
     ensures rows { OnOk result (AreRows contents.new.layout contents.new.rows.items) }
-    ensures marks { OnOk result (length pages.new.used ≡ most_pages_of contents.new.layout) }
+    ensures marks { OnOk result (length edit.new.base.used ≡ most_pages_of contents.new.layout) }
     ensures same { OnErr result (contents.new ≡ contents.old) }
     ensures stays { IfErr result (λ fault. fault ≢ Device
-        → StaysKept D.honest D.state pages.old pages.new) }
-    ensures answer { AnswersEdit result pages.new.closed (Unit {0}) }
-    ensures never_full { IfErr result (λ fault.
-        HonestAt D.honest pages.new.disk → fault ≢ FileFull) }
+        → StaysKept D.honest D.state edit.old.base edit.new.base) }
+    ensures answer { AnswersPages result edit.new.base.closed }
+    ensures never_full { IfErr result (λ fault. HonestAt D.honest edit.new.base.disk
+        → fault ≢ FileFull) }
 {
     // For the proof.
     law_of_state_pages();
     // For the proof: its contract says that each page has the bytes of a block.
-    let _limit = pages.limit();
-    let mut work = pages.begin()?;
-    let next = lay(room, pages, &mut work, contents, change)?;
-    pages.finish(work)?;
-    give_pages(pages, next.layout);
+    let _limit = edit.limit();
+    edit.begin()?;
+    let next = lay(room, edit, contents, change)?;
+    // For the proof.
+    edit.law_of_pages();
+    edit.finish()?;
+    give_pages(edit, next.layout);
     contents.accept(room, next);
     Ok(())
 }
@@ -113,9 +114,11 @@ impl<D: Disk> Archive<D> {
         ensures { MakesChange D.Disk result self.old self.new change }
     {
         self.fetched = None;
-        match change_pages(&mut self.room, &mut self.pages, &mut self.contents, change) {
+        match change_pages(&mut self.room, &mut self.edit, &mut self.contents, change) {
             Ok(()) => Ok(()),
             Err(fault) => {
+                // Its memory is given back.
+                self.edit.end();
                 self.closed = closes(fault);
                 Err(refusal_of(fault))
             }

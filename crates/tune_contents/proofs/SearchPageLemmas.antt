@@ -4,12 +4,9 @@ use Rattle.std.specs.List.{Contains}
 use Rattle.std.proofs.lemmas.Grind.{div_ceil_times}
 use Rattle.abc_fields.specs.Limits.{most_titles}
 use Rattle.index_keys.specs.Holdings.{AreSmall}
-use Rattle.tune_index.specs.IndexAnswers.{IsEditFault}
 use Rattle.tune_pages.specs.Faults.{free_pages, pages_for}
 use Rattle.tune_pages.specs.LinkOffsets.{piece_room}
 use Rattle.tune_pages.specs.Stand.{Stand}
-use Rattle.tune_pages.specs.declared.fault.Fault.{Fault}
-use Rattle.tune_pages.specs.declared.fault.Fault.TheVariants.{FileFull}
 use Rattle.tune_parts.specs.Parts.{Part}
 use Rattle.tune_search.specs.SearchPages.{HasFewLeaves, leaf_count, lists_of, most_entries}
 use Rattle.tune_search.specs.Searches.{HoldsSomeTexts, HoldsTexts, SearchParts, SearchRuns, SearchShape}
@@ -81,7 +78,3 @@ module _ (s0 s1 s2 : Stand) (was is1 is2 : SearchShape) (one : Balance s0 s1 was
 
   pub takes_few : (s3 : Stand) → free_pages s2.used ≤ free_pages s3.used + lists_of is2 → free_pages s0.used ≤ free_pages s3.used + search_pages (length texts)
   takes_few s3 took = let most = few_pages is2 texts few in omega arith
-
--- a call that is answered so found the file full
-pub full_edit : (fault : Fault) (closed : Bool) {P : Type 0} → fault ≡ FileFull → IsEditFault fault closed P → P
-full_edit fault closed {P = P} is answer = (subst (λ (x : Fault). IsEditFault x closed P) is answer).0

@@ -1,7 +1,8 @@
 -- How many free pages a change takes.
 use Rattle.std.proofs.Common.{◌≡◌, ℕ, ◌+◌, ◌<◌, ◌≤◌, List, [], ◌∷◌, ◌++◌, length, Bool, ap, arith}
 use Rattle.std.proofs.Common.{Result, Ok, Err, IfOk}
-use Rattle.tune_pages.specs.Faults.{free_pages, pages_for, AnswersWork}
+use Rattle.tune_pages.specs.Editing.{AnswersEdit}
+use Rattle.tune_pages.specs.Faults.{free_pages, pages_for}
 use Rattle.tune_pages.specs.Stand.{Stand, PutsChain, HasChain, HasSomeChain, without_pages}
 use Rattle.tune_pages.specs.declared.fault.Fault.{Fault}
 use Rattle.tune_pages.specs.declared.fault.Fault.TheVariants.{FileFull, OutOfMemory, Device, Closed}
@@ -27,14 +28,14 @@ freed_count old mid first (trail, all, has) freed =
     omega (arith, more, same)
 
 -- of the answer of a chain that is put
-pub put_takes : (r : Result ℕ Fault) (old new : Stand) (bytes : List ℕ) (closed : Bool)
+pub put_takes : (r : Result ℕ Fault) (old new : Stand) (bytes : List ℕ) (lived lives : Bool)
     → IfOk r (λ first. (trail : List ℕ) × PutsChain old new first trail bytes)
-    → AnswersWork r closed (free_pages old.used < pages_for (length bytes)) → TakesAtMost (pages_for (length bytes)) r old new
-put_takes (Ok first) old new bytes closed put answer = let e = put_count old new first put.0 bytes put.1 in omega (arith, e)
-put_takes (Err FileFull) old new bytes closed put answer = λ _. answer.0
-put_takes (Err OutOfMemory) old new bytes closed put answer = λ e. cc
-put_takes (Err Device) old new bytes closed put answer = λ e. cc
-put_takes (Err Closed) old new bytes closed put answer = λ e. cc
+    → AnswersEdit r (free_pages old.used < pages_for (length bytes)) ⊥ lived lives → TakesAtMost (pages_for (length bytes)) r old new
+put_takes (Ok first) old new bytes lived lives put answer = let e = put_count old new first put.0 bytes put.1 in omega (arith, e)
+put_takes (Err FileFull) old new bytes lived lives put answer = λ _. answer.0
+put_takes (Err OutOfMemory) old new bytes lived lives put answer = λ e. cc
+put_takes (Err Device) old new bytes lived lives put answer = λ e. cc
+put_takes (Err Closed) old new bytes lived lives put answer = λ e. cc
 
 -- behind a call that took none
 pub takes_behind : {T : Type 0} (m : ℕ) (r : Result T Fault) (old mid new : Stand) → free_pages old.used ≤ free_pages mid.used

@@ -1,5 +1,5 @@
-// Chains of an archive, laid anew in a work.
-ghost use Rattle.std.specs.Prelude.{◌≡◌, ◌≢◌, ◌+◌, ◌^◌, ◌<◌, List, [], ◌∷◌, ◌++◌, false, length};
+// Chains of an archive, laid anew in an edit.
+ghost use Rattle.std.specs.Prelude.{◌≡◌, ◌+◌, ◌^◌, ◌<◌, List, [], ◌∷◌, ◌++◌, false, length};
 ghost use Rattle.std.specs.Prelude.{slice_set};
 ghost use Rattle.std.specs.Prelude.{IfOk, IfErr, OnOk, IsTrue};
 ghost use Rattle.std.specs.List.{range_with_len, remove};
@@ -9,16 +9,14 @@ ghost use Rattle.tune_pages.specs.Kept.{HonestAt};
 ghost use Rattle.tune_journal.specs.Pages.{page_at};
 ghost use Rattle.tune_format.specs.Written.{IsRoot};
 ghost use Rattle.tune_pages.specs.Stand.{HasSomeChain};
-ghost use Rattle.tune_pages.specs.Work.{stand, Fits};
-ghost use Rattle.tune_pages.specs.declared.fault.Fault.TheVariants.{Device, Closed};
 ghost use Rattle.tune_pages.specs.declared.fault.Fault.TheVariants.{OutOfMemory};
-ghost use Rattle.tune_pages.specs.Progress.{IsInProgress, Reads};
+ghost use Rattle.tune_pages.specs.Editing.{AltersEdit, Consults};
 ghost use Rattle.tune_sets.specs.SetBytes.{written_sets};
 ghost use Rattle.tune_store.specs.TuneSteps.{numbered};
 ghost use Rattle.tune_store.specs.declared.layout.Layout.{Layout};
 ghost use Rattle.tune_format.specs.declared.root.Firsts.{Firsts};
 ghost use Rattle.tune_format.specs.declared.rows.Row.{Row};
-ghost use Rattle.tune_index.specs.IndexAnswers.{Edits};
+ghost use Rattle.tune_pages.specs.Editing.{Edits};
 ghost use Rattle.tune_contents.specs.Next.{FitsRows, rows_after};
 ghost use Rattle.tune_contents.specs.Inside.Laying.{SwapsChain, LaysRoot, LaysSets};
 ghost use Rattle.tune_contents.specs.Inside.Laying.{HoldsSomeTunes, LaysTunes};
@@ -30,33 +28,25 @@ ghost use Rattle.tune_contents.specs.Inside.Takes.{tune_pages, text_pages, sets_
 use crate::next::RowChange;
 use crate::room::Room;
 use abc_fields::TuneText;
-use std::alloc::Global;
 use tiered_vector::TieredVector;
 use tune_disk::Disk;
 use tune_format::{Firsts, Row, put_text, read_root, write_root, write_text};
-use tune_pages::{Fault, Pages, Work, law_of_works};
+use tune_pages::{Edit, Fault};
 use tune_sets::SetLists;
 use tune_store::{Layout, Tune};
 
 // Frees the chain that begins at `first`, puts these bytes on another one, and gives where that
 // begins.
-fn swap_chain<D: Disk>(
-    pages: &mut Pages<D>,
-    work: &mut Work,
-    first: u32,
-    bytes: &[u8],
-) -> Result<u32, Fault>
-    requires work { IsInProgress pages.old work.old }
-    requires chain { HonestAt D.honest pages.old.disk
-        → HasSomeChain (stand pages.old work.old) first }
-    ensures swaps { IfOk result (λ next. HonestAt D.honest pages.new.disk → SwapsChain
-        (stand pages.old work.old) (stand pages.new work.new) first next bytes.now) }
-    ensures edits { Edits D.Disk result (Unit {0}) work.new pages.old pages.new }
-    ensures takes { HonestAt D.honest pages.new.disk → TakesAtMost (pages_for (length bytes.now))
-        result (stand pages.old work.old) (stand pages.new work.new) }
+fn swap_chain<D: Disk>(edit: &mut Edit<D>, first: u32, bytes: &[u8]) -> Result<u32, Fault>
+    requires chain { HonestAt D.honest edit.old.base.disk → HasSomeChain edit.old.next first }
+    ensures swaps { IfOk result (λ next. HonestAt D.honest edit.new.base.disk
+        → SwapsChain edit.old.next edit.new.next first next bytes.now) }
+    ensures edits { Edits D.Disk result (Unit {0}) edit.old edit.new }
+    ensures takes { HonestAt D.honest edit.new.base.disk
+        → TakesAtMost (pages_for (length bytes.now)) result edit.old.next edit.new.next }
 {
-    pages.free_chain(work, first)?;
-    pages.put_chain(work, bytes)
+    edit.free_chain(first)?;
+    edit.put_chain(bytes)
 }
 
 // Where the chain of the tune at a place begins.
@@ -70,32 +60,28 @@ fn first_at(rows: &TieredVector<Row>, place: usize) -> u32
 
 // Lays a tune on another chain, in the place of the one there.
 pub(crate) fn put_tune<D: Disk>(
-    alloc: Global,
-    pages: &mut Pages<D>,
-    work: &mut Work,
+    edit: &mut Edit<D>,
     rows: &TieredVector<Row>,
     place: usize,
     tune: &Tune,
 ) -> Result<RowChange, Fault>
-    requires work { IsInProgress pages.old work.old }
     requires place { place < length rows.now.items }
-    requires holds { HonestAt D.honest pages.old.disk
-        → HoldsSomeTunes (stand pages.old work.old) rows.now.items }
-    ensures lays { IfOk result (λ made. HonestAt D.honest pages.new.disk → LaysTunes
-        (stand pages.old work.old) (stand pages.new work.new) rows.now.items
-        (rows_after made rows.now.items)
-        (λ tunes. slice_set tunes place tune.now)) }
+    requires holds { HonestAt D.honest edit.old.base.disk
+        → HoldsSomeTunes edit.old.next rows.now.items }
+    ensures lays { IfOk result (λ made. HonestAt D.honest edit.new.base.disk
+        → LaysTunes edit.old.next edit.new.next rows.now.items
+        (rows_after made rows.now.items) (λ tunes. slice_set tunes place tune.now)) }
     ensures row { IfOk result (λ made.
         PutsRow place tune.now.number rows.now.items (rows_after made rows.now.items)) }
     ensures single { IfOk result (λ made. IsSingle made rows.now.items) }
-    ensures edits { Edits D.Disk result (Unit {0}) work.new pages.old pages.new }
-    ensures takes { HonestAt D.honest pages.new.disk → TakesAtMost (tune_pages tune.now.text)
-        result (stand pages.old work.old) (stand pages.new work.new) }
+    ensures edits { Edits D.Disk result (Unit {0}) edit.old edit.new }
+    ensures takes { HonestAt D.honest edit.new.base.disk
+        → TakesAtMost (tune_pages tune.now.text) result edit.old.next edit.new.next }
 {
-    let Ok(bytes) = write_text(alloc, tune.revision, tune.text.bytes()) else {
-        return Err(Fault::OutOfMemory);
+    let Ok(bytes) = write_text(edit.alloc(), tune.revision, tune.text.bytes()) else {
+        return Err(edit.refuse());
     };
-    let first = swap_chain(pages, work, first_at(rows, place), &bytes)?;
+    let first = swap_chain(edit, first_at(rows, place), &bytes)?;
     let row = Row {
         number: tune.number,
         revision: tune.revision,
@@ -107,55 +93,47 @@ pub(crate) fn put_tune<D: Disk>(
 
 // Frees the chain of the tune at a place. Its row goes.
 pub(crate) fn take_tune<D: Disk>(
-    pages: &mut Pages<D>,
-    work: &mut Work,
+    edit: &mut Edit<D>,
     rows: &TieredVector<Row>,
     place: usize,
 ) -> Result<RowChange, Fault>
-    requires work { IsInProgress pages.old work.old }
     requires place { place < length rows.now.items }
-    requires holds { HonestAt D.honest pages.old.disk
-        → HoldsSomeTunes (stand pages.old work.old) rows.now.items }
-    ensures lays { IfOk result (λ made. HonestAt D.honest pages.new.disk → LaysTunes
-        (stand pages.old work.old) (stand pages.new work.new) rows.now.items
-        (rows_after made rows.now.items)
-        (λ tunes. remove tunes place)) }
+    requires holds { HonestAt D.honest edit.old.base.disk
+        → HoldsSomeTunes edit.old.next rows.now.items }
+    ensures lays { IfOk result (λ made. HonestAt D.honest edit.new.base.disk
+        → LaysTunes edit.old.next edit.new.next rows.now.items
+        (rows_after made rows.now.items) (λ tunes. remove tunes place)) }
     ensures rows { IfOk result (λ made.
         rows_after made rows.now.items ≡ remove rows.now.items place) }
     ensures single { IfOk result (λ made. IsSingle made rows.now.items) }
-    ensures edits { Edits D.Disk result (Unit {0}) work.new pages.old pages.new }
-    ensures takes { HonestAt D.honest pages.new.disk → TakesAtMost 0
-        result (stand pages.old work.old) (stand pages.new work.new) }
+    ensures edits { Edits D.Disk result (Unit {0}) edit.old edit.new }
+    ensures takes { HonestAt D.honest edit.new.base.disk
+        → TakesAtMost 0 result edit.old.next edit.new.next }
 {
-    pages.free_chain(work, first_at(rows, place))?;
+    edit.free_chain(first_at(rows, place))?;
     Ok(RowChange::Take { place })
 }
 
 // Puts a new tune on a chain, behind the others. Its row comes behind those of others like it. The
 // bytes of the chain come in the place of those that are in `bytes`.
 fn add_tune<D: Disk>(
-    pages: &Pages<D>,
-    work: &mut Work,
+    edit: &mut Edit<D>,
     bytes: &mut Vec<u8>,
     more: &mut Vec<Row>,
     number: u32,
     text: &TuneText,
 ) -> Result<(), Fault>
-    requires work { IsInProgress pages.now work.old }
-    ensures fits { OnOk result (Fits pages.now work.new) }
     ensures lays { OnOk result ((rows : List Row)
-        → LaysTunes (stand pages.now work.old) (stand pages.now work.new)
-        (rows ++ more.old.items) (rows ++ more.new.items)
-        (λ tunes. tunes ++ numbered number (text.now ∷ []))) }
+        → LaysTunes edit.old.next edit.new.next (rows ++ more.old.items) (rows
+        ++ more.new.items) (λ tunes. tunes ++ numbered number (text.now ∷ []))) }
     ensures row { OnOk result (AddsRow number more.old.items more.new.items) }
-    ensures quiet { IfErr result (λ fault. (fault ≢ Device) × (fault ≢ Closed)) }
-    ensures takes { TakesAtMost (tune_pages text.now) result
-        (stand pages.now work.old) (stand pages.now work.new) }
+    ensures alters { AltersEdit result (Unit {0}) edit.old edit.new }
+    ensures takes { TakesAtMost (tune_pages text.now) result edit.old.next edit.new.next }
 {
     let Ok(()) = put_text(bytes, 1, text.bytes()) else {
-        return Err(Fault::OutOfMemory);
+        return Err(edit.refuse());
     };
-    let first = pages.put_chain(work, bytes)?;
+    let first = edit.put_chain(bytes)?;
     let row = Row {
         number,
         revision: 1,
@@ -163,7 +141,7 @@ fn add_tune<D: Disk>(
         length: text.bytes().len() as u32,
     };
     if more.push(row).is_err() {
-        return Err(Fault::OutOfMemory);
+        return Err(edit.refuse());
     }
     Ok(())
 }
@@ -179,34 +157,24 @@ fn chain_bytes(texts: &[TuneText]) -> usize {
 
 // Puts new tunes of these texts on chains, behind the others, with numbers from `first` on, and
 // gives their rows.
-fn add_tunes<D: Disk>(
-    alloc: Global,
-    pages: &Pages<D>,
-    work: &mut Work,
-    first: u32,
-    texts: &[TuneText],
-) -> Result<Vec<Row>, Fault>
-    requires work { IsInProgress pages.now work.old }
+fn add_tunes<D: Disk>(edit: &mut Edit<D>, first: u32, texts: &[TuneText]) -> Result<Vec<Row>, Fault>
     requires numbers { first + length texts.now < 2 ^ 32 }
-    ensures fits { OnOk result (Fits pages.now work.new) }
-    ensures lays { IfOk result (λ more. (rows : List Row)
-        → LaysTunes (stand pages.now work.old) (stand pages.now work.new)
-        rows (rows ++ more.items) (λ tunes. tunes ++ numbered first texts.now)) }
+    ensures lays { IfOk result (λ more. (rows : List Row) → LaysTunes edit.old.next
+        edit.new.next rows (rows ++ more.items) (λ tunes. tunes ++ numbered first texts.now)) }
     ensures rows { IfOk result (λ more.
         numbers_of_rows more.items ≡ range_with_len first (length texts.now)) }
-    ensures quiet { IfErr result (λ fault. (fault ≢ Device) × (fault ≢ Closed)) }
-    ensures takes { TakesAtMost (text_pages texts.now) result
-        (stand pages.now work.old) (stand pages.now work.new) }
+    ensures alters { AltersEdit result (Unit {0}) edit.old edit.new }
+    ensures takes { TakesAtMost (text_pages texts.now) result edit.old.next edit.new.next }
 {
-    let Ok(mut more) = Vec::with_capacity(alloc, texts.len()) else {
-        return Err(Fault::OutOfMemory);
+    let Ok(mut more) = Vec::with_capacity(edit.alloc(), texts.len()) else {
+        return Err(edit.refuse());
     };
     // Memory for all chains at once, so that none is moved, and for some leaves of the indexes.
-    pages.reserve(work, texts.len() + texts.len() / 8, chain_bytes(texts))?;
-    let mut bytes = Vec::new(alloc);
+    edit.reserve(texts.len() + texts.len() / 8, chain_bytes(texts))?;
+    let mut bytes = Vec::new(edit.alloc());
     let mut number = first;
     for text in texts {
-        add_tune(pages, work, &mut bytes, &mut more, number, text)?;
+        add_tune(edit, &mut bytes, &mut more, number, text)?;
         number += 1;
     }
     Ok(more)
@@ -230,80 +198,64 @@ fn put_behind(room: &mut Room, rows: &TieredVector<Row>, more: Vec<Row>) -> Resu
 // Lays new tunes of these texts, behind the others, with numbers from `first` on.
 pub(crate) fn lay_added<D: Disk>(
     room: &mut Room,
-    pages: &Pages<D>,
-    work: &mut Work,
+    edit: &mut Edit<D>,
     rows: &TieredVector<Row>,
     first: u32,
     texts: &[TuneText],
 ) -> Result<RowChange, Fault>
-    requires work { IsInProgress pages.now work.old }
     requires numbers { first + length texts.now < 2 ^ 32 }
-    ensures fits { OnOk result (Fits pages.now work.new) }
-    ensures lays { IfOk result (λ made. LaysTunes
-        (stand pages.now work.old) (stand pages.now work.new)
-        rows.now.items (rows_after made rows.now.items)
-        (λ tunes. tunes ++ numbered first texts.now)) }
+    ensures lays { IfOk result (λ made. LaysTunes edit.old.next edit.new.next rows.now.items
+        (rows_after made rows.now.items) (λ tunes. tunes ++ numbered first texts.now)) }
     ensures rows { IfOk result (λ made.
         AddsRows first (length texts.now) rows.now.items (rows_after made rows.now.items)) }
     ensures made { IfOk result (λ made. IsMadeOf made rows.now.items) }
     ensures room { IfOk result (λ made. FitsRows made rows.now.items rows.now.room) }
-    ensures quiet { IfErr result (λ fault. (fault ≢ Device) × (fault ≢ Closed)) }
-    ensures takes { TakesAtMost (text_pages texts.now) result
-        (stand pages.now work.old) (stand pages.now work.new) }
+    ensures alters { AltersEdit result (Unit {0}) edit.old edit.new }
+    ensures takes { TakesAtMost (text_pages texts.now) result edit.old.next edit.new.next }
 {
-    let more = match add_tunes(room.alloc, pages, work, first, texts) {
+    let more = match add_tunes(edit, first, texts) {
         Ok(more) => more,
         Err(fault) => return Err(fault),
     };
     let Ok(made) = put_behind(room, rows, more) else {
-        return Err(Fault::OutOfMemory);
+        return Err(edit.refuse());
     };
     Ok(made)
 }
 
 // Puts the set lists on another chain.
-fn lay_sets<D: Disk>(
-    pages: &mut Pages<D>,
-    work: &mut Work,
-    sets_first: u32,
-    sets: &SetLists,
-) -> Result<u32, Fault>
-    requires work { IsInProgress pages.old work.old }
-    requires chain { HonestAt D.honest pages.old.disk
-        → HasSomeChain (stand pages.old work.old) sets_first }
-    ensures swaps { IfOk result (λ next. HonestAt D.honest pages.new.disk → SwapsChain
-        (stand pages.old work.old) (stand pages.new work.new) sets_first next
-        (written_sets sets.now)) }
-    ensures edits { Edits D.Disk result (Unit {0}) work.new pages.old pages.new }
-    ensures takes { HonestAt D.honest pages.new.disk → TakesAtMost (sets_pages sets.now)
-        result (stand pages.old work.old) (stand pages.new work.new) }
+fn lay_sets<D: Disk>(edit: &mut Edit<D>, sets_first: u32, sets: &SetLists) -> Result<u32, Fault>
+    requires chain { HonestAt D.honest edit.old.base.disk → HasSomeChain edit.old.next sets_first }
+    ensures swaps { IfOk result (λ next. HonestAt D.honest edit.new.base.disk
+        → SwapsChain edit.old.next edit.new.next sets_first next (written_sets sets.now)) }
+    ensures edits { Edits D.Disk result (Unit {0}) edit.old edit.new }
+    ensures takes { HonestAt D.honest edit.new.base.disk
+        → TakesAtMost (sets_pages sets.now) result edit.old.next edit.new.next }
 {
     let Ok(bytes) = sets.write() else {
-        return Err(Fault::OutOfMemory);
+        return Err(edit.refuse());
     };
-    swap_chain(pages, work, sets_first, bytes.as_slice())
+    swap_chain(edit, sets_first, bytes.as_slice())
 }
 
 // Puts the set lists on another chain where they change; otherwise they stay where they are.
 pub(crate) fn lay_sets_where<D: Disk>(
-    pages: &mut Pages<D>,
-    work: &mut Work,
+    edit: &mut Edit<D>,
     sets_first: u32,
     sets: &SetLists,
     changes: bool,
 ) -> Result<u32, Fault>
-    requires work { IsInProgress pages.old work.old }
-    requires chain { HonestAt D.honest pages.old.disk
-        → HasSomeChain (stand pages.old work.old) sets_first }
-    ensures lays { IfOk result (λ next. HonestAt D.honest pages.new.disk → LaysSets
-        (stand pages.old work.old) (stand pages.new work.new) sets_first next changes sets.now) }
-    ensures edits { Edits D.Disk result (Unit {0}) work.new pages.old pages.new }
-    ensures takes { HonestAt D.honest pages.new.disk → TakesAtMost (sets_pages sets.now)
-        result (stand pages.old work.old) (stand pages.new work.new) }
+    requires chain { HonestAt D.honest edit.old.base.disk → HasSomeChain edit.old.next sets_first }
+    ensures lays { IfOk result (λ next. HonestAt D.honest edit.new.base.disk
+        → LaysSets edit.old.next edit.new.next sets_first next changes sets.now) }
+    ensures edits { Edits D.Disk result (Unit {0}) edit.old edit.new }
+    ensures takes { HonestAt D.honest edit.new.base.disk
+        → TakesAtMost (sets_pages sets.now) result edit.old.next edit.new.next }
 {
     if changes {
-        lay_sets(pages, work, sets_first, sets)
+        lay_sets(edit, sets_first, sets)
     } else {
+        edit.check()?;
         Ok(sets_first)
     }
 }
@@ -311,21 +263,20 @@ pub(crate) fn lay_sets_where<D: Disk>(
 // Whether the root says already that the chains begin there. It is read for that, where they began
 // there before.
 fn has_root<D: Disk>(
-    pages: &mut Pages<D>,
-    work: &Work,
+    edit: &mut Edit<D>,
     layout: Layout,
     was: Firsts,
     firsts: Firsts,
 ) -> Result<bool, Fault>
-    requires work { IsInProgress pages.old work.now }
-    ensures root { IfOk result (λ has. IsTrue has → HonestAt D.honest pages.new.disk
-        → IsRoot layout (page_at (stand pages.old work.now).pages 0) firsts) }
-    ensures reads { Reads D.Disk result work.now pages.old pages.new }
+    ensures root { IfOk result (λ has. IsTrue has → HonestAt D.honest edit.new.base.disk
+        → IsRoot layout (page_at edit.old.next.pages 0) firsts) }
+    ensures consults { Consults D.Disk result edit.old edit.new }
 {
-    if was != firsts || !pages.in_use(work, 0) {
+    edit.check()?;
+    if was != firsts || !edit.in_use(0) {
         return Ok(false);
     }
-    let root = pages.read_page(work, 0)?;
+    let root = edit.read_page(0)?;
     let Some((its, found)) = read_root(&root) else {
         return Ok(false);
     };
@@ -337,23 +288,21 @@ fn has_root<D: Disk>(
 
 // Puts a root on page 0 that says where these begin; one that says so already stays.
 pub(crate) fn lay_root<D: Disk>(
-    pages: &mut Pages<D>,
-    work: &mut Work,
+    edit: &mut Edit<D>,
     layout: Layout,
     was: Firsts,
     firsts: Firsts,
 ) -> Result<(), Fault>
-    requires work { IsInProgress pages.old work.old }
-    ensures root { OnOk result (HonestAt D.honest pages.new.disk → LaysRoot layout
-        (stand pages.old work.old) (stand pages.new work.new) firsts) }
-    ensures edits { Edits D.Disk result (Unit {0}) work.new pages.old pages.new }
-    ensures takes { HonestAt D.honest pages.new.disk
-        → TakesAtMost 0 result (stand pages.old work.old) (stand pages.new work.new) }
+    ensures root { OnOk result (HonestAt D.honest edit.new.base.disk
+        → LaysRoot layout edit.old.next edit.new.next firsts) }
+    ensures edits { Edits D.Disk result (Unit {0}) edit.old edit.new }
+    ensures takes { HonestAt D.honest edit.new.base.disk
+        → TakesAtMost 0 result edit.old.next edit.new.next }
 {
-    // For the proof.
-    law_of_works();
-    if has_root(pages, work, layout, was, firsts)? {
+    if has_root(edit, layout, was, firsts)? {
         return Ok(());
     }
-    pages.put_page(work, 0, &write_root(layout, firsts))
+    // For the proof.
+    edit.law_of_pages();
+    edit.put_page(0, &write_root(layout, firsts))
 }

@@ -4,9 +4,7 @@ ghost use Rattle.std.specs.Prelude.{Err, IfOk, IfErr, OnOk};
 ghost use Rattle.tune_journal.specs.FileOffsets.{block_bytes};
 ghost use Rattle.tune_pages.specs.FreePages.{TakesAtMost};
 ghost use Rattle.tune_pages.specs.Kept.{HonestAt};
-ghost use Rattle.tune_pages.specs.Work.{stand};
 ghost use Rattle.tune_pages.specs.declared.fault.Fault.TheVariants.{FileFull, OutOfMemory};
-ghost use Rattle.tune_pages.specs.Progress.{IsInProgress};
 ghost use Rattle.tune_search.specs.SearchPages.{AreListed, firsts_in};
 ghost use Rattle.tune_sets.specs.declared.faults.SetFault.TheVariants as set_fault;
 ghost use Rattle.tune_sets.specs.declared.set_lists.TuneSet.{TuneSet};
@@ -15,7 +13,7 @@ ghost use Rattle.tune_store.specs.Plans.{CanChange};
 ghost use Rattle.tune_store.specs.State.{State, IsState};
 ghost use Rattle.tune_store.specs.declared.plans.Change.TheVariants.{Upgrade};
 ghost use Rattle.tune_store.specs.declared.tune.Tune.{Tune};
-ghost use Rattle.tune_index.specs.IndexAnswers.{Edits};
+ghost use Rattle.tune_pages.specs.Editing.{Edits};
 ghost use Rattle.tune_contents.specs.Claimed.{AreRows};
 ghost use Rattle.tune_contents.specs.Holds.{labels_in, HoldsContents, HoldsSomeState, LaysMemory};
 ghost use Rattle.tune_contents.specs.Most.{enough_pages, most_part_pages};
@@ -42,7 +40,7 @@ use tiered_vector::TieredVector;
 use tune_disk::Disk;
 use tune_format::{Firsts, Row};
 use tune_index::Index;
-use tune_pages::{Fault, Pages, Work};
+use tune_pages::{Edit, Fault};
 use tune_search::{SearchFirsts, SearchIndexes};
 use tune_sets::{SetFault, SetLists};
 use tune_store::{Change, Layout};
@@ -82,30 +80,28 @@ fn change_sets(sets: &mut SetLists, change: &Change) -> Result<(), SetFault>
 // them.
 fn lay_tunes<D: Disk>(
     room: &mut Room,
-    pages: &mut Pages<D>,
-    work: &mut Work,
+    edit: &mut Edit<D>,
     rows: &TieredVector<Row>,
     change: &Change,
 ) -> Result<RowChange, Fault>
-    requires work { IsInProgress pages.old work.old }
     requires accept { RowsAccept change.now rows.now.items }
-    requires holds { HonestAt D.honest pages.old.disk
-        → HoldsSomeTunes (stand pages.old work.old) rows.now.items }
-    ensures lays { IfOk result (λ made. HonestAt D.honest pages.new.disk → LaysChange
-        (stand pages.old work.old) (stand pages.new work.new) rows.now.items
-        (rows_after made rows.now.items) change.now) }
+    requires holds { HonestAt D.honest edit.old.base.disk
+        → HoldsSomeTunes edit.old.next rows.now.items }
+    ensures lays { IfOk result (λ made. HonestAt D.honest edit.new.base.disk → LaysChange
+        edit.old.next edit.new.next rows.now.items (rows_after made rows.now.items) change.now) }
     ensures made { IfOk result (λ made. IsMadeOf made rows.now.items) }
     ensures rows { IfOk result (λ made.
         KeepsRows change.now rows.now.items (rows_after made rows.now.items)) }
     ensures room { IfOk result (λ made. FitsRows made rows.now.items rows.now.room) }
-    ensures edits { Edits D.Disk result (Unit {0}) work.new pages.old pages.new }
-    ensures takes { HonestAt D.honest pages.new.disk → TakesAtMost (change_pages change.now)
-        result (stand pages.old work.old) (stand pages.new work.new) }
+    ensures edits { Edits D.Disk result (Unit {0}) edit.old edit.new }
+    ensures takes { HonestAt D.honest edit.new.base.disk
+        → TakesAtMost (change_pages change.now) result edit.old.next edit.new.next }
 {
+    edit.check()?;
     match change {
-        Change::Add { first, texts } => lay_added(room, pages, work, rows, *first, texts),
-        Change::Put { place, tune } => put_tune(room.alloc, pages, work, rows, *place, tune),
-        Change::Take { place } => take_tune(pages, work, rows, *place),
+        Change::Add { first, texts } => lay_added(room, edit, rows, *first, texts),
+        Change::Put { place, tune } => put_tune(edit, rows, *place, tune),
+        Change::Take { place } => take_tune(edit, rows, *place),
         Change::Move { number, to } => Ok(move_row(rows, *number, *to)),
         Change::NewSet { .. } | Change::AddPlace { .. } => Ok(RowChange::Stay),
         Change::CutPlace { .. } | Change::DropSet { .. } => Ok(RowChange::Stay),
@@ -124,23 +120,19 @@ struct Indexes {
 // rows, and where the lists of the indexes begin; a change of the set lists alone leaves all.
 fn lay_indexed<D: Disk>(
     room: &mut Room,
-    pages: &mut Pages<D>,
-    work: &mut Work,
+    edit: &mut Edit<D>,
     layout: Layout,
     rows: &TieredVector<Row>,
     indexes: &mut Indexes,
     change: &Change,
 ) -> Result<(RowChange, u32, SearchFirsts), Fault>
-    requires work { IsInProgress pages.old work.old }
     requires accept { RowsAccept change.now rows.now.items }
-    requires holds { HonestAt D.honest pages.old.disk → HoldsSomeIndexed layout
-        (stand pages.old work.old)
+    requires holds { HonestAt D.honest edit.old.base.disk → HoldsSomeIndexed layout edit.old.next
         (keeps_of indexes.old.numbers indexes.old.searches rows.now.items) }
-    ensures lays { IfOk result (λ laid. HonestAt D.honest pages.new.disk → LaysIndexed layout
-        (stand pages.old work.old) (stand pages.new work.new)
-        (keeps_of indexes.old.numbers indexes.old.searches rows.now.items)
-        (keeps_of indexes.new.numbers indexes.new.searches (rows_after laid.0 rows.now.items))
-        change.now) }
+    ensures lays { IfOk result (λ laid. HonestAt D.honest edit.new.base.disk
+        → LaysIndexed layout edit.old.next edit.new.next
+        (keeps_of indexes.old.numbers indexes.old.searches rows.now.items) (keeps_of
+        indexes.new.numbers indexes.new.searches (rows_after laid.0 rows.now.items)) change.now) }
     ensures lists { IfOk result (λ laid. (indexes.new.numbers.first ≡ laid.1)
         × (indexes.new.numbers.listed ≡ true) × (laid.2 ≡ firsts_in indexes.new.searches)
         × AreListed indexes.new.searches) }
@@ -149,23 +141,21 @@ fn lay_indexed<D: Disk>(
     ensures room { IfOk result (λ laid. FitsRows laid.0 rows.now.items rows.now.room) }
     ensures notes { OnOk result
         (indexes.new.searches.notes ≡ indexes.old.searches.notes) }
-    ensures edits { Edits D.Disk result (Unit {0}) work.new pages.old pages.new }
-    ensures takes { HonestAt D.honest pages.new.disk → (tunes : List Tune) (sets : List TuneSet)
-        → HoldsIndexed layout (stand pages.old work.old)
-        (keeps_of indexes.old.numbers indexes.old.searches rows.now.items) tunes
-        → CanChange change.now layout (labels_in rows.now.items) sets
-        → let count = length (changed_tunes change.now tunes) in
-        TakesAtMost (change_pages change.now + (index_pages count + search_pages count)) result
-        (stand pages.old work.old) (stand pages.new work.new) }
+    ensures edits { Edits D.Disk result (Unit {0}) edit.old edit.new }
+    ensures takes { HonestAt D.honest edit.new.base.disk → (tunes : List Tune) (sets : List TuneSet)
+        → HoldsIndexed layout edit.old.next (keeps_of indexes.old.numbers indexes.old.searches
+        rows.now.items) tunes → CanChange change.now layout (labels_in rows.now.items) sets
+        → let count = length (changed_tunes change.now tunes) in TakesAtMost (change_pages
+        change.now + (index_pages count + search_pages count)) result edit.old.next edit.new.next }
 {
     let notes = indexes.searches.notes();
-    let texts = text_runs(room.alloc, pages, work, layout, notes, rows, change)?;
-    let made = lay_tunes(room, pages, work, rows, change)?;
-    let Ok(entries) = number_runs(room.alloc, rows, &made) else {
-        return Err(Fault::OutOfMemory);
+    let texts = text_runs(edit, layout, notes, rows, change)?;
+    let made = lay_tunes(room, edit, rows, change)?;
+    let Ok(entries) = number_runs(edit.alloc(), rows, &made) else {
+        return Err(edit.refuse());
     };
-    let numbers = change_numbers(room.alloc, pages, work, &mut indexes.numbers, &entries)?;
-    let searches = change_searches(room.alloc, pages, work, &mut indexes.searches, &texts)?;
+    let numbers = change_numbers(edit, &mut indexes.numbers, &entries)?;
+    let searches = change_searches(edit, &mut indexes.searches, &texts)?;
     Ok((made, numbers, searches))
 }
 
@@ -187,56 +177,57 @@ fn sets_after(sets: &SetLists, change: &Change) -> Result<SetLists, Fault>
 // Lays a change that leaves the layout.
 fn lay_change<D: Disk>(
     room: &mut Room,
-    pages: &mut Pages<D>,
-    work: &mut Work,
+    edit: &mut Edit<D>,
     contents: &Contents,
     change: &Change,
 ) -> Result<Next, Fault>
-    requires work { IsInProgress pages.old work.old }
     requires stays { change.now ≢ Upgrade }
     requires possible { CanChange change.now contents.now.layout
         (labels_in contents.now.rows.items) contents.now.sets }
-    requires holds { HonestAt D.honest pages.old.disk
-        → HoldsSomeState (stand pages.old work.old) contents.now }
-    ensures lays { IfOk result (λ next. HonestAt D.honest pages.new.disk → LaysMemory
-        (stand pages.old work.old) (stand pages.new work.new) contents.now
-        (memory_after next contents.now) change.now) }
+    requires holds { HonestAt D.honest edit.old.base.disk
+        → HoldsSomeState edit.old.next contents.now }
+    ensures lays { IfOk result (λ next. HonestAt D.honest edit.new.base.disk → LaysMemory
+        edit.old.next edit.new.next contents.now (memory_after next contents.now) change.now) }
     ensures rows { AreRows contents.now.layout contents.now.rows.items
         → IfOk result (λ next.
         AreRows next.layout (rows_after next.rows contents.now.rows.items)) }
     ensures layout { IfOk result (λ next. next.layout ≡ contents.now.layout) }
     ensures room { IfOk result (λ next.
         FitsRows next.rows contents.now.rows.items contents.now.rows.room) }
-    ensures edits { Edits D.Disk result (Unit {0}) work.new pages.old pages.new }
-    ensures takes { HonestAt D.honest pages.new.disk → (state : State)
-        → HoldsContents (stand pages.old work.old) contents.now state → IsState state
-        → IsState (changed change.now state) → TakesAtMost (most_part_pages contents.now.layout)
-        result (stand pages.old work.old) (stand pages.new work.new) }
+    ensures edits { Edits D.Disk result (Unit {0}) edit.old edit.new }
+    ensures takes { HonestAt D.honest edit.new.base.disk
+        → (state : State) → HoldsContents edit.old.next contents.now state
+        → IsState state → IsState (changed change.now state)
+        → TakesAtMost (most_part_pages contents.now.layout) result edit.old.next edit.new.next }
 {
-    let mut indexes = Indexes {
-        numbers: room.copy_numbers(&contents.numbers)?,
-        searches: room.copy_searches(&contents.searches)?,
+    let Ok(numbers) = room.copy_numbers(&contents.numbers) else {
+        return Err(edit.refuse());
     };
-    let sets = sets_after(&contents.sets, change)?;
+    let Ok(searches) = room.copy_searches(&contents.searches) else {
+        return Err(edit.refuse());
+    };
+    let mut indexes = Indexes { numbers, searches };
+    let Ok(sets) = sets_after(&contents.sets, change) else {
+        return Err(edit.refuse());
+    };
     let names = changes_sets(change, &contents.sets);
     let layout = contents.layout;
     let was = contents.firsts;
     let (rows, numbers, searches) = lay_indexed(
         room,
-        pages,
-        work,
+        edit,
         layout,
         &contents.rows,
         &mut indexes,
         change,
     )?;
-    let sets_first = lay_sets_where(pages, work, was.sets, &sets, names)?;
+    let sets_first = lay_sets_where(edit, was.sets, &sets, names)?;
     let firsts = Firsts {
         numbers,
         searches,
         sets: sets_first,
     };
-    lay_root(pages, work, layout, was, firsts)?;
+    lay_root(edit, layout, was, firsts)?;
     Ok(Next {
         layout,
         rows,
@@ -247,9 +238,9 @@ fn lay_change<D: Disk>(
     })
 }
 
-/// Lays a change of an archive on its pages, in a work that was begun on them, and gives what
-/// `contents` is to accept once the work is finished. Until then it stays as it is: where the work
-/// is dropped, or not finished, nothing was changed.
+/// Lays a change of an archive on its pages, in an edit that was begun, and gives what `contents`
+/// is to accept once the edit is finished. Until then it stays as it is: where the edit ends
+/// otherwise, nothing was changed.
 ///
 /// Chains that go are freed before others are put, so that these may take their pages. The leaves
 /// of the indexes change that the change concerns; the lists of leaves, where leaves come or go;
@@ -262,7 +253,7 @@ fn lay_change<D: Disk>(
 ///   layout is that after the change.
 /// - `room`: there is room for what becomes of the rows, as `accept` asks.
 /// - `looks`: no page of the disk changes.
-/// - `fits`: the work may be changed further, or finished.
+/// - `edits`: the edit goes on where the call went well, and has ended where it was refused.
 /// - `takes`: where the state after the change is within the limits, it takes no more free pages
 ///   than the chains and leaves of a state have at most; the file is full only where fewer are
 ///   free.
@@ -272,23 +263,20 @@ fn lay_change<D: Disk>(
 /// # Errors
 ///
 /// `FileFull`, where there is no page for a chain or a leaf; `OutOfMemory`; the pages stay open.
-/// `Device`, where the device failed: the pages are closed then. A work that was refused is to be
-/// dropped.
+/// `Device`, where the device failed: the pages are closed then. `Closed`, where the edit had
+/// ended.
 pub fn lay<D: Disk>(
     room: &mut Room,
-    pages: &mut Pages<D>,
-    work: &mut Work,
+    edit: &mut Edit<D>,
     contents: &Contents,
     change: Change,
 ) -> Result<Next, Fault>
-    requires work { IsInProgress pages.old work.old }
     requires possible { CanChange change contents.now.layout
         (labels_in contents.now.rows.items) contents.now.sets }
-    requires holds { HonestAt D.honest pages.old.disk
-        → HoldsSomeState (stand pages.old work.old) contents.now }
-    ensures lays { IfOk result (λ next. HonestAt D.honest pages.new.disk → LaysMemory
-        (stand pages.old work.old) (stand pages.new work.new) contents.now
-        (memory_after next contents.now) change) }
+    requires holds { HonestAt D.honest edit.old.base.disk
+        → HoldsSomeState edit.old.next contents.now }
+    ensures lays { IfOk result (λ next. HonestAt D.honest edit.new.base.disk → LaysMemory
+        edit.old.next edit.new.next contents.now (memory_after next contents.now) change) }
     ensures rows { AreRows contents.now.layout contents.now.rows.items
         → IfOk result (λ next.
         AreRows next.layout (rows_after next.rows contents.now.rows.items)) }
@@ -296,24 +284,22 @@ pub fn lay<D: Disk>(
         ≡ changed_layout change contents.now.layout) }
     ensures room { IfOk result (λ next.
         FitsRows next.rows contents.now.rows.items contents.now.rows.room) }
-    ensures edits { Edits D.Disk result (Unit {0}) work.new pages.old pages.new }
-    ensures takes { HonestAt D.honest pages.new.disk → (state : State)
-        → HoldsContents (stand pages.old work.old) contents.now state → IsState state
-        → IsState (changed change state) → TakesAtMost (most_part_pages contents.now.layout)
-        result (stand pages.old work.old) (stand pages.new work.new) }
-    ensures enough { HonestAt D.honest pages.new.disk → (state : State)
-        → HoldsContents (stand pages.old work.old) contents.now state → IsState state
-        → IsState (changed change state)
-        → All (λ page. length page ≡ block_bytes) (stand pages.old work.old).pages
-        → enough_pages contents.now.layout ≤ length (stand pages.old work.old).used
-        → result ≢ Err FileFull }
+    ensures edits { Edits D.Disk result (Unit {0}) edit.old edit.new }
+    ensures takes { HonestAt D.honest edit.new.base.disk
+        → (state : State) → HoldsContents edit.old.next contents.now state
+        → IsState state → IsState (changed change state)
+        → TakesAtMost (most_part_pages contents.now.layout) result edit.old.next edit.new.next }
+    ensures enough { HonestAt D.honest edit.new.base.disk
+        → (state : State) → HoldsContents edit.old.next contents.now state → IsState state → IsState
+        (changed change state) → All (λ page. length page ≡ block_bytes) edit.old.next.pages
+        → enough_pages contents.now.layout ≤ length edit.old.next.used → result ≢ Err FileFull }
 {
     if let Change::Upgrade = &change {
         // An honest disk has no others.
         if !are_rows(contents.layout, &contents.rows) {
-            return Err(pages.close());
+            return Err(edit.close());
         }
-        return upgrade(room, pages, work, contents);
+        return upgrade(room, edit, contents);
     }
-    lay_change(room, pages, work, contents, &change)
+    lay_change(room, edit, contents, &change)
 }

@@ -1,5 +1,5 @@
 //! What an archive holds on its pages: it is claimed where they are opened, and a change of it is
-//! laid on them in a work.
+//! laid on them in an edit.
 #![tactic(auto)]
 
 mod claiming;

@@ -45,7 +45,7 @@ pub enum RowChange {
     Whole(Vec<Row>),
 }
 
-/// What is to be kept in memory of an archive once the work of a change is finished. The rows are
+/// What is to be kept in memory of an archive once the edit of a change is finished. The rows are
 /// told by what becomes of those before it, so that a change of one tune copies no others.
 #[derive(Drop)]
 pub struct Next {
@@ -86,7 +86,7 @@ fn change_rows(rows: &mut TieredVector<Row>, room: &mut Room, change: RowChange)
 }
 
 impl Contents {
-    /// Becomes what a change leads to, once its work is finished. It takes no memory: what is left
+    /// Becomes what a change leads to, once its edit is finished. It takes no memory: what is left
     /// over goes into the room, for later changes.
     pub fn accept(&mut self, room: &mut Room, next: Next)
         requires { FitsRows next.rows self.old.rows.items self.old.rows.room }

@@ -4,12 +4,10 @@ ghost use Rattle.std.specs.Prelude.{length, List, IfOk, OnOk};
 ghost use Rattle.tune_pages.specs.Faults.{pages_for};
 ghost use Rattle.tune_pages.specs.FreePages.{TakesAtMost};
 ghost use Rattle.tune_pages.specs.Kept.{HonestAt};
-ghost use Rattle.tune_pages.specs.Work.{stand};
-ghost use Rattle.tune_pages.specs.Progress.{IsInProgress};
 ghost use Rattle.index_keys.specs.Entries.{AllFit, Entry, FitsLeaf, IsRising, inserted_all};
 ghost use Rattle.index_keys.specs.Entries.{removed_all};
 ghost use Rattle.tune_index.specs.ListedLeaves.{index_with};
-ghost use Rattle.tune_index.specs.IndexAnswers.{Edits};
+ghost use Rattle.tune_pages.specs.Editing.{Edits};
 ghost use Rattle.tune_parts.specs.Parts.{Part};
 ghost use Rattle.tune_search.specs.IndexParts.{HoldsIndexAmong, HoldsSomeIndex, IndexParts};
 ghost use Rattle.tune_search.specs.IndexParts.{LaysIndex};
@@ -27,7 +25,7 @@ use tiered_vector::TieredVector;
 use tune_disk::Disk;
 use tune_format::{Row, key_of_number};
 use tune_index::{Index, IndexKey};
-use tune_pages::{Fault, Pages, Work};
+use tune_pages::{Edit, Fault};
 use tune_search::{put_run, store_list, take_run};
 
 // What goes out of the index of numbers with a change, and what comes in, in order.
@@ -113,32 +111,26 @@ pub(crate) fn number_runs(
 // Takes entries out of the index of numbers and puts others in, stores its list, and gives where
 // that begins.
 pub(crate) fn change_numbers<D: Disk>(
-    alloc: Global,
-    pages: &mut Pages<D>,
-    work: &mut Work,
+    edit: &mut Edit<D>,
     numbers: &mut Index<32>,
     runs: &NumberRuns,
 ) -> Result<u32, Fault>
-    requires work { IsInProgress pages.old work.old }
-    requires index { HonestAt D.honest pages.old.disk
-        → HoldsSomeIndex key_bytes (stand pages.old work.old) numbers.old }
+    requires index { HonestAt D.honest edit.old.base.disk
+        → HoldsSomeIndex key_bytes edit.old.next numbers.old }
     requires rising { IsRising runs.now.come.items }
-    ensures lays { OnOk result (HonestAt D.honest pages.new.disk → LaysIndex key_bytes
-        (stand pages.old work.old) (stand pages.new work.new) numbers.old numbers.new
-        (λ entries. inserted_all runs.now.come.items
-        (removed_all runs.now.gone.items entries))) }
+    ensures lays { OnOk result (HonestAt D.honest edit.new.base.disk
+        → LaysIndex key_bytes edit.old.next edit.new.next numbers.old numbers.new (λ entries.
+        inserted_all runs.now.come.items (removed_all runs.now.gone.items entries))) }
     ensures list { IfOk result (λ first. (numbers.new.first ≡ first)
         × (numbers.new.listed ≡ true)) }
-    ensures takes { HonestAt D.honest pages.new.disk
-        → (before after : List Part) (parts : IndexParts) (entries : List Entry)
-        → HoldsIndexAmong key_bytes (stand pages.old work.old) (index_with numbers.old entries)
-        before after parts → let count = length (inserted_all runs.now.come.items
-        (removed_all runs.now.gone.items entries)) in
-        TakesAtMost (count + pages_for (number_bytes * count)) result
-        (stand pages.old work.old) (stand pages.new work.new) }
-    ensures edits { Edits D.Disk result (Unit {0}) work.new pages.old pages.new }
+    ensures takes { HonestAt D.honest edit.new.base.disk
+        → (before after : List Part) (parts : IndexParts) (entries : List Entry) → HoldsIndexAmong
+        key_bytes edit.old.next (index_with numbers.old entries) before after parts → let count
+        = length (inserted_all runs.now.come.items (removed_all runs.now.gone.items entries)) in
+        TakesAtMost (count + pages_for (number_bytes * count)) result edit.old.next edit.new.next }
+    ensures edits { Edits D.Disk result (Unit {0}) edit.old edit.new }
 {
-    take_run(alloc, pages, work, numbers, &runs.gone)?;
-    put_run(alloc, pages, work, numbers, &runs.come)?;
-    store_list(alloc, pages, work, numbers)
+    take_run(edit, numbers, &runs.gone)?;
+    put_run(edit, numbers, &runs.come)?;
+    store_list(edit, numbers)
 }

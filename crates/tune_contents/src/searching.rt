@@ -2,13 +2,11 @@
 ghost use Rattle.std.specs.Prelude.{◌≡◌, ◌≤◌, ◌<◌, ◌^◌, ◌+◌, ◌++◌, ℕ, length, List};
 ghost use Rattle.std.specs.Prelude.{slice_index_or, IfErr, IfOk, IfSome, IsSome, OnOk, Some};
 ghost use Rattle.index_keys.specs.Holdings.{AreSmall};
-ghost use Rattle.tune_index.specs.IndexAnswers.{Edits};
+ghost use Rattle.tune_pages.specs.Editing.{Consults, Edits};
 ghost use Rattle.tune_pages.specs.Faults.{free_pages};
 ghost use Rattle.tune_pages.specs.FreePages.{TakesAtMost};
 ghost use Rattle.tune_pages.specs.Kept.{HonestAt};
-ghost use Rattle.tune_pages.specs.Work.{stand};
 ghost use Rattle.tune_pages.specs.declared.fault.Fault.TheVariants.{OutOfMemory};
-ghost use Rattle.tune_pages.specs.Progress.{IsInProgress, Reads};
 ghost use Rattle.tune_parts.specs.Parts.{Part};
 ghost use Rattle.tune_search.specs.IncipitForms.{note_count};
 ghost use Rattle.tune_search.specs.SearchPages.{AreListed, firsts_in, leaf_count};
@@ -37,7 +35,7 @@ use std::slice;
 use tiered_vector::TieredVector;
 use tune_disk::Disk;
 use tune_format::Row;
-use tune_pages::{Fault, Pages, Work};
+use tune_pages::{Edit, Fault};
 use tune_search::{IncipitNotes, Runs, SearchFirsts, SearchIndexes, law_of_search_pages};
 use tune_store::{Change, Layout};
 
@@ -65,27 +63,23 @@ fn old_place(rows: &TieredVector<Row>, change: &Change) -> Option<usize>
 
 // The number and the text of the tune of the row at a place.
 fn tune_at<D: Disk>(
-    alloc: Global,
-    pages: &mut Pages<D>,
-    work: &Work,
+    edit: &mut Edit<D>,
     layout: Layout,
     rows: &TieredVector<Row>,
     place: usize,
 ) -> Result<(u32, TuneText), Fault>
-    requires work { IsInProgress pages.old work.now }
     requires place { place < length rows.now.items }
-    requires holds { HonestAt D.honest pages.old.disk
-        → HoldsTunesWithin layout (stand pages.old work.now) rows.now.items }
+    requires holds { HonestAt D.honest edit.old.base.disk
+        → HoldsTunesWithin layout edit.old.next rows.now.items }
     ensures number { IfOk result (λ tune. (d : Row)
         → (slice_index_or rows.now.items place d).number ≡ tune.0) }
-    ensures tune { IfOk result (λ tune. HonestAt D.honest pages.new.disk
+    ensures tune { IfOk result (λ tune. HonestAt D.honest edit.new.base.disk
         → (ahead : List Part) (tunes : List Tune) → IsTunes layout tunes
-        → HoldsTunes (stand pages.old work.now) ahead tunes rows.now.items
-        → IsTuneAt place tunes (Some tune)) }
-    ensures reads { Reads D.Disk result work.now pages.old pages.new }
+        → HoldsTunes edit.old.next ahead tunes rows.now.items → IsTuneAt place tunes (Some tune)) }
+    ensures consults { Consults D.Disk result edit.old edit.new }
 {
     let row = rows.at(place);
-    match read_tune_where(alloc, pages, work, layout, row.first, true) {
+    match read_tune_where(edit, layout, row.first, true) {
         Ok(text) => Ok((row.number, text)),
         Err(fault) => Err(fault),
     }
@@ -94,25 +88,22 @@ fn tune_at<D: Disk>(
 // The number and the text of the tune that a change replaces, takes out or moves, if it is such a
 // change and there is such a tune.
 fn old_tune<D: Disk>(
-    alloc: Global,
-    pages: &mut Pages<D>,
-    work: &Work,
+    edit: &mut Edit<D>,
     layout: Layout,
     rows: &TieredVector<Row>,
     change: &Change,
 ) -> Result<Option<(u32, TuneText)>, Fault>
-    requires work { IsInProgress pages.old work.now }
     requires accept { RowsAccept change.now rows.now.items }
-    requires holds { HonestAt D.honest pages.old.disk
-        → HoldsTunesWithin layout (stand pages.old work.now) rows.now.items }
-    ensures tune { IfOk result (λ old. HonestAt D.honest pages.new.disk
+    requires holds { HonestAt D.honest edit.old.base.disk
+        → HoldsTunesWithin layout edit.old.next rows.now.items }
+    ensures tune { IfOk result (λ old. HonestAt D.honest edit.new.base.disk
         → (ahead : List Part) (tunes : List Tune) → IsTunes layout tunes
-        → HoldsTunes (stand pages.old work.now) ahead tunes rows.now.items
-        → IsOldTune change.now tunes old) }
-    ensures reads { Reads D.Disk result work.now pages.old pages.new }
+        → HoldsTunes edit.old.next ahead tunes rows.now.items → IsOldTune change.now tunes old) }
+    ensures consults { Consults D.Disk result edit.old edit.new }
 {
+    edit.check()?;
     match old_place(rows, change) {
-        Some(place) => match tune_at(alloc, pages, work, layout, rows, place) {
+        Some(place) => match tune_at(edit, layout, rows, place) {
             Ok(tune) => Ok(Some(tune)),
             Err(fault) => Err(fault),
         },
@@ -183,66 +174,62 @@ fn runs_in(
 // What goes and what comes with a change of the tunes of these rows. The text of a tune that is
 // replaced, taken out or moved is read; nothing is written.
 pub(crate) fn text_runs<D: Disk>(
-    alloc: Global,
-    pages: &mut Pages<D>,
-    work: &Work,
+    edit: &mut Edit<D>,
     layout: Layout,
     notes: IncipitNotes,
     rows: &TieredVector<Row>,
     change: &Change,
 ) -> Result<TextRuns, Fault>
-    requires work { IsInProgress pages.old work.now }
     requires accept { RowsAccept change.now rows.now.items }
-    requires holds { HonestAt D.honest pages.old.disk
-        → HoldsTunesWithin layout (stand pages.old work.now) rows.now.items }
-    ensures gone { IfOk result (λ runs. HonestAt D.honest pages.new.disk
-        → (ahead : List Part) (tunes : List Tune) → IsTunes layout tunes
-        → HoldsTunes (stand pages.old work.now) ahead tunes rows.now.items
-        → TakesSome runs.gone (numbered_texts tunes)) }
-    ensures runs { IfOk result (λ runs. HonestAt D.honest pages.new.disk
-        → (ahead : List Part) (tunes : List Tune) (sets : List TuneSet) → IsTunes layout tunes
-        → HoldsTunes (stand pages.old work.now) ahead tunes rows.now.items
-        → CanChange change.now layout (labels_in rows.now.items) sets
-        → ChangesTexts runs.gone runs.come (numbered_texts tunes)
-        (numbered_texts (changed_tunes change.now tunes))) }
+    requires holds { HonestAt D.honest edit.old.base.disk
+        → HoldsTunesWithin layout edit.old.next rows.now.items }
+    ensures gone { IfOk result (λ runs. HonestAt D.honest edit.new.base.disk
+        → (ahead : List Part) (tunes : List Tune) → IsTunes layout tunes → HoldsTunes
+        edit.old.next ahead tunes rows.now.items → TakesSome runs.gone (numbered_texts tunes)) }
+    ensures runs { IfOk result (λ runs. HonestAt D.honest edit.new.base.disk
+        → (ahead : List Part) (tunes : List Tune) (sets : List TuneSet)
+        → IsTunes layout tunes → HoldsTunes edit.old.next ahead tunes rows.now.items
+        → CanChange change.now layout (labels_in rows.now.items) sets → ChangesTexts runs.gone
+        runs.come (numbered_texts tunes) (numbered_texts (changed_tunes change.now tunes))) }
     ensures come { IfOk result (λ runs. IsSomeRun runs.come) }
     ensures gone_notes { IfOk result (λ runs. IsByNotes (note_count notes) runs.gone) }
     ensures come_notes { IfOk result (λ runs. IsByNotes (note_count notes) runs.come) }
-    ensures reads { Reads D.Disk result work.now pages.old pages.new }
+    ensures consults { Consults D.Disk result edit.old edit.new }
 {
-    let old = match old_tune(alloc, pages, work, layout, rows, change) {
+    let old = match old_tune(edit, layout, rows, change) {
         Ok(old) => old,
         Err(fault) => return Err(fault),
     };
-    let gone = runs_out(alloc, notes, &old)?;
-    let come = runs_in(alloc, notes, change, &old)?;
+    let Ok(gone) = runs_out(edit.alloc(), notes, &old) else {
+        return Err(edit.refuse());
+    };
+    let Ok(come) = runs_in(edit.alloc(), notes, change, &old) else {
+        return Err(edit.refuse());
+    };
     Ok(TextRuns { gone, come })
 }
 
 // Takes out of the search indexes what goes, if something does.
 fn take_runs<D: Disk>(
-    alloc: Global,
-    pages: &mut Pages<D>,
-    work: &mut Work,
+    edit: &mut Edit<D>,
     searches: &mut SearchIndexes,
     gone: &Option<Runs>,
 ) -> Result<(), Fault>
-    requires work { IsInProgress pages.old work.old }
     requires notes { IsByNotes searches.old.notes gone.now }
-    requires holds { HonestAt D.honest pages.old.disk
-        → HoldsSomeTexts (stand pages.old work.old) searches.old }
+    requires holds { HonestAt D.honest edit.old.base.disk
+        → HoldsSomeTexts edit.old.next searches.old }
     ensures notes { OnOk result (searches.new.notes ≡ searches.old.notes) }
-    ensures lays { OnOk result (HonestAt D.honest pages.new.disk → TakesTexts
-        (stand pages.old work.old) (stand pages.new work.new) searches.old searches.new gone.now) }
-    ensures balance { OnOk result (free_pages (stand pages.old work.old).used
-        + leaf_count searches.old ≡ free_pages (stand pages.new work.new).used
-        + leaf_count searches.new) }
-    ensures edits { Edits D.Disk result ⊥ work.new pages.old pages.new }
+    ensures lays { OnOk result (HonestAt D.honest edit.new.base.disk
+        → TakesTexts edit.old.next edit.new.next searches.old searches.new gone.now) }
+    ensures balance { OnOk result (free_pages edit.old.next.used + leaf_count searches.old
+        ≡ free_pages edit.new.next.used + leaf_count searches.new) }
+    ensures edits { Edits D.Disk result ⊥ edit.old edit.new }
 {
+    edit.check()?;
     let Some(gone) = gone else {
         return Ok(());
     };
-    match searches.take(alloc, pages, work, gone) {
+    match searches.take(edit, gone) {
         Ok(()) => Ok(()),
         Err(fault) => Err(fault),
     }
@@ -250,31 +237,27 @@ fn take_runs<D: Disk>(
 
 // Puts into the search indexes what comes, if something does.
 fn put_runs<D: Disk>(
-    alloc: Global,
-    pages: &mut Pages<D>,
-    work: &mut Work,
+    edit: &mut Edit<D>,
     searches: &mut SearchIndexes,
     come: &Option<Runs>,
 ) -> Result<(), Fault>
-    requires work { IsInProgress pages.old work.old }
-    requires holds { HonestAt D.honest pages.old.disk
-        → HoldsSomeTexts (stand pages.old work.old) searches.old }
+    requires holds { HonestAt D.honest edit.old.base.disk
+        → HoldsSomeTexts edit.old.next searches.old }
     requires come { IsSomeRun come.now }
     requires notes { IsByNotes searches.old.notes come.now }
     ensures notes { OnOk result (searches.new.notes ≡ searches.old.notes) }
-    ensures lays { OnOk result (HonestAt D.honest pages.new.disk → PutsTexts
-        (stand pages.old work.old) (stand pages.new work.new) searches.old searches.new come.now) }
-    ensures balance { OnOk result (free_pages (stand pages.old work.old).used
-        + leaf_count searches.old ≡ free_pages (stand pages.new work.new).used
-        + leaf_count searches.new) }
-    ensures edits { Edits D.Disk result (HonestAt D.honest pages.new.disk
-        → IsFullForTexts (stand pages.old work.old) searches.old come.now) work.new pages.old
-        pages.new }
+    ensures lays { OnOk result (HonestAt D.honest edit.new.base.disk
+        → PutsTexts edit.old.next edit.new.next searches.old searches.new come.now) }
+    ensures balance { OnOk result (free_pages edit.old.next.used + leaf_count searches.old
+        ≡ free_pages edit.new.next.used + leaf_count searches.new) }
+    ensures edits { Edits D.Disk result (HonestAt D.honest edit.new.base.disk
+        → IsFullForTexts edit.old.next searches.old come.now) edit.old edit.new }
 {
+    edit.check()?;
     let Some(come) = come else {
         return Ok(());
     };
-    match searches.put(alloc, pages, work, come) {
+    match searches.put(edit, come) {
         Ok(()) => Ok(()),
         Err(fault) => Err(fault),
     }
@@ -283,43 +266,38 @@ fn put_runs<D: Disk>(
 // Takes out of the search indexes what goes and puts in what comes, stores their lists, and gives
 // where these begin.
 pub(crate) fn change_searches<D: Disk>(
-    alloc: Global,
-    pages: &mut Pages<D>,
-    work: &mut Work,
+    edit: &mut Edit<D>,
     searches: &mut SearchIndexes,
     runs: &TextRuns,
 ) -> Result<SearchFirsts, Fault>
-    requires work { IsInProgress pages.old work.old }
-    requires holds { HonestAt D.honest pages.old.disk
-        → HoldsTextsWith (stand pages.old work.old) searches.old runs.now.gone }
+    requires holds { HonestAt D.honest edit.old.base.disk
+        → HoldsTextsWith edit.old.next searches.old runs.now.gone }
     requires come { IsSomeRun runs.now.come }
     requires gone_notes { IsByNotes searches.old.notes runs.now.gone }
     requires come_notes { IsByNotes searches.old.notes runs.now.come }
     ensures notes { OnOk result (searches.new.notes ≡ searches.old.notes) }
-    ensures lays { OnOk result (HonestAt D.honest pages.new.disk → LaysTexts
-        (stand pages.old work.old) (stand pages.new work.new) searches.old searches.new
-        runs.now.gone runs.now.come) }
+    ensures lays { OnOk result (HonestAt D.honest edit.new.base.disk → LaysTexts
+        edit.old.next edit.new.next searches.old searches.new runs.now.gone runs.now.come) }
     ensures firsts { IfOk result (λ firsts. firsts ≡ firsts_in searches.new) }
     ensures listed { OnOk result (AreListed searches.new) }
-    ensures takes { HonestAt D.honest pages.new.disk
+    ensures takes { HonestAt D.honest edit.new.base.disk
         → (before after : List Part) (parts : SearchParts) (tunes others more : List (ℕ × List ℕ))
-        → AreSmall tunes → TakesOut runs.now.gone tunes others → PutsIn runs.now.come more
-        → HoldsTexts (stand pages.old work.old) searches.old before after parts tunes
-        → TakesAtMost (search_pages (length (others ++ more))) result
-        (stand pages.old work.old) (stand pages.new work.new) }
-    ensures edits { Edits D.Disk result (Unit {0}) work.new pages.old pages.new }
+        → AreSmall tunes → TakesOut runs.now.gone tunes others
+        → PutsIn runs.now.come more → HoldsTexts edit.old.next searches.old before after parts tunes
+        → TakesAtMost (search_pages (length (others ++ more))) result edit.old.next edit.new.next }
+    ensures edits { Edits D.Disk result (Unit {0}) edit.old edit.new }
 {
-    match take_runs(alloc, pages, work, searches, &runs.gone) {
+    match take_runs(edit, searches, &runs.gone) {
         Ok(()) => {}
         Err(fault) => return Err(fault),
     }
-    match put_runs(alloc, pages, work, searches, &runs.come) {
+    match put_runs(edit, searches, &runs.come) {
         Ok(()) => {}
         Err(fault) => return Err(fault),
     }
     // For the proof.
     law_of_search_pages();
-    match searches.store(alloc, pages, work) {
+    match searches.store(edit) {
         Ok(firsts) => Ok(firsts),
         Err(fault) => Err(fault),
     }

@@ -7,7 +7,6 @@ pub mod Splits
 pub mod LeafLists
 pub mod Runs
 pub mod Ends
-pub mod Answering
 pub mod Changes
 pub mod Storing
 pub mod Joining

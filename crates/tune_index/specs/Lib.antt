@@ -1,5 +1,4 @@
 pub mod Leaves
 pub mod Indexes
 pub mod ListedLeaves
-pub mod IndexAnswers
 pub mod Inside

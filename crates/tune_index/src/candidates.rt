@@ -3,8 +3,7 @@ ghost use Rattle.std.specs.Prelude.{◌≡◌, ◌↔◌, ◌≤◌, ◌<◌, �
 ghost use Rattle.std.specs.Prelude.{slice_index};
 ghost use Rattle.tune_pages.specs.Frame.{InUse, image_at};
 ghost use Rattle.tune_pages.specs.Kept.{HonestAt};
-ghost use Rattle.tune_pages.specs.Progress.{IsInProgress, Reads};
-ghost use Rattle.tune_pages.specs.Work.{stand};
+ghost use Rattle.tune_pages.specs.Editing.{Consults};
 ghost use Rattle.index_keys.specs.Entries.{AllFit, IsRising, rank, values_within};
 ghost use Rattle.tune_index.specs.Indexes.{HasPages, IsIndex, entries_of};
 ghost use Rattle.tune_index.specs.Leaves.{IsLeaf, leaf_in, slice_entry};
@@ -12,56 +11,51 @@ ghost use Rattle.tune_index.specs.Leaves.{IsLeaf, leaf_in, slice_entry};
 use crate::index::{Index, leaf_count, leaf_for};
 use crate::leaf::{add_values_of, is_leaf};
 use index_keys::IndexKey;
-use std::alloc::Global;
 use tune_disk::Disk;
 use tune_journal::PageImage;
-use tune_pages::{Fault, Pages, Work, law_of_looks};
+use tune_pages::{Edit, Fault};
 
 // Puts the image of a page of an index in the place of `image`. A page that is not in use or is the
 // root, which an honest disk does not show, closes the pages.
 fn read_leaf_image<D: Disk>(
-    pages: &mut Pages<D>,
-    work: &Work,
+    edit: &mut Edit<D>,
     page: u32,
     image: &mut PageImage,
 ) -> Result<(), Fault>
-    requires work { IsInProgress pages.old work.now }
-    requires in_use { HonestAt D.honest pages.old.disk → InUse (stand pages.old work.now) page }
-    ensures image { OnOk result (HonestAt D.honest pages.new.disk
-        → image.new.bytes ≡ image_at (stand pages.old work.now) page) }
-    ensures in_use { OnOk result (InUse (stand pages.new work.now) page) }
-    ensures reads { Reads D.Disk result work.now pages.old pages.new }
+    requires in_use { HonestAt D.honest edit.old.base.disk → InUse edit.old.next page }
+    ensures image { OnOk result (HonestAt D.honest edit.new.base.disk
+        → image.new.bytes ≡ image_at edit.old.next page) }
+    ensures in_use { OnOk result (InUse edit.new.next page) }
+    ensures consults { Consults D.Disk result edit.old edit.new }
 {
-    if page == 0 || !pages.in_use(work, page) {
-        return Err(pages.close());
+    edit.check()?;
+    if page == 0 || !edit.in_use(page) {
+        return Err(edit.close());
     }
-    pages.read_page_into(work, page, image)
+    edit.read_page_into(page, image)
 }
 
 // Puts the image of the leaf in a page in the place of `image`. A page that has none, which an
 // honest disk does not show, closes the pages.
 pub(crate) fn read_page_leaf<D: Disk, const W: usize>(
-    pages: &mut Pages<D>,
-    work: &Work,
+    edit: &mut Edit<D>,
     page: u32,
     image: &mut PageImage,
 ) -> Result<(), Fault>
     requires width { W ≤ 4090 }
-    requires work { IsInProgress pages.old work.now }
-    requires in_use { HonestAt D.honest pages.old.disk → InUse (stand pages.old work.now) page }
-    requires form { HonestAt D.honest pages.old.disk
-        → IsLeaf W (image_at (stand pages.old work.now) page) }
-    ensures leaf { OnOk result (HonestAt D.honest pages.new.disk
-        → image.new.bytes ≡ image_at (stand pages.old work.now) page) }
+    requires in_use { HonestAt D.honest edit.old.base.disk → InUse edit.old.next page }
+    requires form { HonestAt D.honest edit.old.base.disk → IsLeaf W (image_at edit.old.next page) }
+    ensures leaf { OnOk result (HonestAt D.honest edit.new.base.disk
+        → image.new.bytes ≡ image_at edit.old.next page) }
     ensures form { OnOk result (IsLeaf W image.new.bytes) }
-    ensures in_use { OnOk result (InUse (stand pages.new work.now) page) }
-    ensures reads { Reads D.Disk result work.now pages.old pages.new }
+    ensures in_use { OnOk result (InUse edit.new.next page) }
+    ensures consults { Consults D.Disk result edit.old edit.new }
 {
-    if let Err(fault) = read_leaf_image(pages, work, page, image) {
+    if let Err(fault) = read_leaf_image(edit, page, image) {
         return Err(fault);
     }
     if !is_leaf::<W>(image) {
-        return Err(pages.close());
+        return Err(edit.close());
     }
     Ok(())
 }
@@ -69,32 +63,28 @@ pub(crate) fn read_page_leaf<D: Disk, const W: usize>(
 // The values of the entries of the leaf in a page that are in the range go to the end of the list.
 // A page that has no leaf, which an honest disk does not show, closes the pages.
 fn add_page_values<D: Disk, const W: usize>(
-    pages: &mut Pages<D>,
-    work: &Work,
+    edit: &mut Edit<D>,
     page: u32,
     low: &IndexKey<W>,
     high: &IndexKey<W>,
     values: &mut Vec<u32>,
 ) -> Result<(), Fault>
     requires width { W ≤ 4090 }
-    requires work { IsInProgress pages.old work.now }
-    requires in_use { HonestAt D.honest pages.old.disk → InUse (stand pages.old work.now) page }
-    requires form { HonestAt D.honest pages.old.disk
-        → IsLeaf W (image_at (stand pages.old work.now) page) }
-    ensures values { let leaf = leaf_in W (image_at (stand pages.old work.now) page) in
-        OnOk result (HonestAt D.honest pages.new.disk → IsRising leaf → AllFit W leaf
-        → values.new.items
-        ≡ values.old.items ++ values_within low.now high.now leaf) }
-    ensures reads { Reads D.Disk result work.now pages.old pages.new }
+    requires in_use { HonestAt D.honest edit.old.base.disk → InUse edit.old.next page }
+    requires form { HonestAt D.honest edit.old.base.disk → IsLeaf W (image_at edit.old.next page) }
+    ensures values { let leaf = leaf_in W (image_at edit.old.next page) in
+        OnOk result (HonestAt D.honest edit.new.base.disk → IsRising leaf → AllFit W leaf
+        → values.new.items ≡ values.old.items ++ values_within low.now high.now leaf) }
+    ensures consults { Consults D.Disk result edit.old edit.new }
 {
     let mut image = PageImage::blank();
-    if let Err(fault) = read_leaf_image(pages, work, page, &mut image) {
+    if let Err(fault) = read_leaf_image(edit, page, &mut image) {
         return Err(fault);
     }
     match add_values_of(&image, low, high, values) {
         Ok(true) => Ok(()),
-        Ok(false) => Err(pages.close()),
-        Err(_) => Err(Fault::OutOfMemory),
+        Ok(false) => Err(edit.close()),
+        Err(_) => Err(edit.refuse()),
     }
 }
 
@@ -112,27 +102,23 @@ fn begins_above<const W: usize>(index: &Index<W>, place: usize, high: &IndexKey<
 
 // The values of the entries of one leaf that are in the range go to the end of the list.
 fn add_leaf_values<D: Disk, const W: usize>(
-    pages: &mut Pages<D>,
-    work: &Work,
+    edit: &mut Edit<D>,
     index: &Index<W>,
     place: usize,
     low: &IndexKey<W>,
     high: &IndexKey<W>,
     values: &mut Vec<u32>,
 ) -> Result<(), Fault>
-    requires work { IsInProgress pages.old work.now }
-    requires pages { HonestAt D.honest pages.old.disk
-        → HasPages (stand pages.old work.now) index.now.pages }
-    requires index { HonestAt D.honest pages.old.disk
-        → IsIndex W (stand pages.old work.now) index.now }
+    requires pages { HonestAt D.honest edit.old.base.disk → HasPages edit.old.next index.now.pages }
+    requires index { HonestAt D.honest edit.old.base.disk → IsIndex W edit.old.next index.now }
     requires place { place < length index.now.pages }
-    ensures values { OnOk result (HonestAt D.honest pages.new.disk → values.new.items
-        ≡ values.old.items ++ values_within low.now high.now
-        (leaf_in W (image_at (stand pages.old work.now) (slice_index index.now.pages place)))) }
-    ensures reads { Reads D.Disk result work.now pages.old pages.new }
+    ensures values { OnOk result (HonestAt D.honest edit.new.base.disk
+        → values.new.items ≡ values.old.items ++ values_within low.now high.now
+        (leaf_in W (image_at edit.old.next (slice_index index.now.pages place)))) }
+    ensures consults { Consults D.Disk result edit.old edit.new }
 {
     let page = index.pages[place];
-    match add_page_values(pages, work, page, low, high, values) {
+    match add_page_values(edit, page, low, high, values) {
         Ok(()) => Ok(()),
         Err(fault) => Err(fault),
     }
@@ -147,23 +133,19 @@ impl<const W: usize> Index<W> {
     /// `OutOfMemory`; `Device` where the disk failed: the pages are then closed.
     pub fn candidates<D: Disk>(
         &self,
-        alloc: Global,
-        pages: &mut Pages<D>,
-        work: &Work,
+        edit: &mut Edit<D>,
         low: &IndexKey<W>,
         high: &IndexKey<W>,
     ) -> Result<Vec<u32>, Fault>
-        requires work { IsInProgress pages.old work.now }
-        requires pages { HonestAt D.honest pages.old.disk
-            → HasPages (stand pages.old work.now) self.now.pages }
-        requires index { HonestAt D.honest pages.old.disk
-            → IsIndex W (stand pages.old work.now) self.now }
-        ensures values { IfOk result (λ values. HonestAt D.honest pages.new.disk → values.items
-            ≡ values_within low.now high.now
-            (entries_of W (stand pages.old work.now) self.now.pages)) }
-        ensures reads { Reads D.Disk result work.now pages.old pages.new }
+        requires pages { HonestAt D.honest edit.old.base.disk
+            → HasPages edit.old.next self.now.pages }
+        requires index { HonestAt D.honest edit.old.base.disk → IsIndex W edit.old.next self.now }
+        ensures values { IfOk result (λ values. HonestAt D.honest edit.new.base.disk → values.items
+            ≡ values_within low.now high.now (entries_of W edit.old.next self.now.pages)) }
+        ensures consults { Consults D.Disk result edit.old edit.new }
     {
-        let mut values = Vec::new(alloc);
+        edit.check()?;
+        let mut values = Vec::new(edit.alloc());
         let leaves = leaf_count(self);
         if leaves == 0 {
             return Ok(values);
@@ -173,7 +155,7 @@ impl<const W: usize> Index<W> {
             if begins_above(self, place, high) {
                 return Ok(values);
             }
-            match add_leaf_values(pages, work, self, place, low, high, &mut values) {
+            match add_leaf_values(edit, self, place, low, high, &mut values) {
                 Ok(()) => {}
                 Err(fault) => return Err(fault),
             }

@@ -3,40 +3,36 @@ ghost use Rattle.std.specs.Prelude.{◌≡◌, ◌+◌, [], false, length, IfOk,
 ghost use Rattle.tune_pages.specs.Faults.{free_pages};
 ghost use Rattle.tune_pages.specs.Frame.{TradesPages};
 ghost use Rattle.tune_pages.specs.Kept.{HonestAt};
-ghost use Rattle.tune_pages.specs.Work.{stand};
-ghost use Rattle.tune_index.specs.IndexAnswers.{ChangesWork, Edits};
+ghost use Rattle.tune_pages.specs.Editing.{AltersEdit, Edits};
 ghost use Rattle.tune_index.specs.Indexes.{HasPages, KeepsList, Reshapes};
-ghost use Rattle.tune_pages.specs.Progress.{IsInProgress};
 
 use crate::edit::drop_leaf;
 use crate::index::{Index, leaf_count, leaf_page};
 use tune_disk::Disk;
-use tune_pages::{Fault, Pages, Work, law_of_looks};
+use tune_pages::{Edit, Fault};
 
 // The leaves are taken out, from the last one to the first, and their pages are free. Where the
 // page of one is not in use, that one and those before it stay, and the answer is false.
 fn drop_leaves<D: Disk, const W: usize>(
-    pages: &Pages<D>,
-    work: &mut Work,
+    edit: &mut Edit<D>,
     index: &mut Index<W>,
 ) -> Result<bool, Fault>
-    requires work { IsInProgress pages.now work.old }
-    ensures shape { OnOk result (Reshapes (HasPages (stand pages.now work.old) index.old.pages)
-        (stand pages.now work.old) (stand pages.now work.new) index.old index.new) }
-    ensures all { IfOk result (λ all. HasPages (stand pages.now work.old) index.old.pages
-        → IsTrue all) }
+    ensures shape { OnOk result (Reshapes
+        (HasPages edit.old.next index.old.pages) edit.old.next edit.new.next index.old index.new) }
+    ensures all { IfOk result (λ all. HasPages edit.old.next index.old.pages → IsTrue all) }
     ensures leaves { IfOk result (λ all. IsTrue all
         → (index.new.pages ≡ []) × (index.new.heads ≡ [])) }
-    ensures work { ChangesWork result ⊥ pages.now work.new }
+    ensures alters { AltersEdit result ⊥ edit.old edit.new }
 {
+    edit.check()?;
     let mut rest = leaf_count(index);
     while rest > 0 {
         let place = rest - 1;
         let page = leaf_page(index, place);
-        if page == 0 || !pages.in_use(work, page) {
+        if page == 0 || !edit.in_use(page) {
             return Ok(false);
         }
-        match drop_leaf(pages, work, index, place) {
+        match drop_leaf(edit, index, place) {
             Ok(()) => {}
             Err(fault) => return Err(fault),
         }
@@ -52,24 +48,22 @@ impl<const W: usize> Index<W> {
     /// # Errors
     ///
     /// `OutOfMemory`; `Device` where a page is not in use, which an honest disk never shows: the
-    /// pages are then closed. The index and the work are then to be dropped.
-    pub fn clear<D: Disk>(&mut self, pages: &mut Pages<D>, work: &mut Work) -> Result<(), Fault>
-        requires work { IsInProgress pages.old work.old }
-        requires pages { HonestAt D.honest pages.old.disk
-            → HasPages (stand pages.old work.old) self.old.pages }
+    /// pages are then closed. `Closed`. The index is then to be dropped.
+    pub fn clear<D: Disk>(&mut self, edit: &mut Edit<D>) -> Result<(), Fault>
+        requires pages { HonestAt D.honest edit.old.base.disk
+            → HasPages edit.old.next self.old.pages }
         ensures list { OnOk result (KeepsList self.old self.new) }
         ensures leaves { OnOk result ((self.new.pages ≡ []) × (self.new.heads ≡ [])) }
-        ensures trades { OnOk result (HonestAt D.honest pages.new.disk
-            → TradesPages self.old.pages self.new.pages
-            (stand pages.old work.old) (stand pages.new work.new)) }
-        ensures balance { OnOk result (free_pages (stand pages.new work.new).used
-            ≡ free_pages (stand pages.old work.old).used + length self.old.pages) }
-        ensures disk { pages.new.disk ≡ pages.old.disk }
-        ensures edits { Edits D.Disk result ⊥ work.new pages.old pages.new }
+        ensures trades { OnOk result (HonestAt D.honest edit.new.base.disk
+            → TradesPages self.old.pages self.new.pages edit.old.next edit.new.next) }
+        ensures balance { OnOk result (free_pages edit.new.next.used
+            ≡ free_pages edit.old.next.used + length self.old.pages) }
+        ensures disk { edit.new.base.disk ≡ edit.old.base.disk }
+        ensures edits { Edits D.Disk result ⊥ edit.old edit.new }
     {
-        match drop_leaves(pages, work, self) {
+        match drop_leaves(edit, self) {
             Ok(true) => Ok(()),
-            Ok(false) => Err(pages.close()),
+            Ok(false) => Err(edit.close()),
             Err(fault) => Err(fault),
         }
     }

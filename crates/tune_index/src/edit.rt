@@ -4,13 +4,11 @@ ghost use Rattle.std.specs.Prelude.{slice_index, slice_set, take, drop, OnOk};
 ghost use Rattle.std.specs.List.{insert, remove};
 ghost use Rattle.tune_pages.specs.Faults.{free_pages};
 ghost use Rattle.tune_pages.specs.Frame.{InUse, Puts, image_at};
-ghost use Rattle.tune_pages.specs.Work.{stand};
 ghost use Rattle.index_keys.specs.Entries.{Entry};
-ghost use Rattle.tune_index.specs.IndexAnswers.{ChangesWork};
+ghost use Rattle.tune_pages.specs.Editing.{AltersEdit};
 ghost use Rattle.tune_index.specs.Indexes.{HasPages, KeepsList, Reshapes};
 ghost use Rattle.tune_index.specs.Inside.LeafLists.{HasLeaves, joined_leaves};
 ghost use Rattle.tune_index.specs.Leaves.{IsLeaf, capacity, leaf_in, slice_entry};
-ghost use Rattle.tune_pages.specs.Progress.{IsInProgress};
 
 use crate::index::{Index, leaf_count, leaf_page};
 use crate::leaf::capacity_of;
@@ -19,71 +17,62 @@ use index_keys::IndexKey;
 use std::alloc::AllocError;
 use tune_disk::Disk;
 use tune_journal::PageImage;
-use tune_pages::{Fault, Pages, Work, law_of_frames, law_of_works};
+use tune_pages::{Edit, Fault, law_of_frames};
 
 // The image of a leaf goes into a page.
 fn put_leaf<D: Disk, const W: usize>(
-    pages: &Pages<D>,
-    work: &mut Work,
+    edit: &mut Edit<D>,
     page: u32,
     image: &PageImage,
 ) -> Result<(), Fault>
-    requires work { IsInProgress pages.now work.old }
-    requires in_use { InUse (stand pages.now work.old) page }
+    requires in_use { InUse edit.old.next page }
     requires form { IsLeaf W image.now.bytes }
-    ensures leaf { OnOk result (leaf_in W (image_at (stand pages.now work.new) page)
+    ensures leaf { OnOk result (leaf_in W (image_at edit.new.next page)
         ≡ leaf_in W image.now.bytes) }
-    ensures form { OnOk result (IsLeaf W (image_at (stand pages.now work.new) page)) }
-    ensures used { OnOk result
-        ((stand pages.now work.new).used ≡ (stand pages.now work.old).used) }
-    ensures puts { OnOk result (Puts (stand pages.now work.old) (stand pages.now work.new) page
-        (image_at (stand pages.now work.new) page)) }
-    ensures work { ChangesWork result ⊥ pages.now work.new }
+    ensures form { OnOk result (IsLeaf W (image_at edit.new.next page)) }
+    ensures used { OnOk result (edit.new.next.used ≡ edit.old.next.used) }
+    ensures puts { OnOk result
+        (Puts edit.old.next edit.new.next page (image_at edit.new.next page)) }
+    ensures alters { AltersEdit result ⊥ edit.old edit.new }
 {
     // For the proof.
-    law_of_works();
+    edit.law_of_pages();
     law_of_frames();
-    pages.put_page(work, page, image)?;
+    edit.put_page(page, image)?;
     Ok(())
 }
 
 // The leaf goes into a page.
 fn write_page_leaf<D: Disk, const W: usize>(
-    pages: &Pages<D>,
-    work: &mut Work,
+    edit: &mut Edit<D>,
     page: u32,
     leaf: &[(IndexKey<W>, u32)],
 ) -> Result<(), Fault>
     requires width { W ≤ 4090 }
-    requires work { IsInProgress pages.now work.old }
-    requires in_use { InUse (stand pages.now work.old) page }
+    requires in_use { InUse edit.old.next page }
     requires some { 1 ≤ length leaf.now }
     requires within { length leaf.now ≤ capacity W }
-    ensures leaf { OnOk result
-        (leaf_in W (image_at (stand pages.now work.new) page) ≡ leaf.now) }
-    ensures form { OnOk result (IsLeaf W (image_at (stand pages.now work.new) page)) }
-    ensures used { OnOk result
-        ((stand pages.now work.new).used ≡ (stand pages.now work.old).used) }
-    ensures puts { OnOk result (Puts (stand pages.now work.old) (stand pages.now work.new) page
-        (image_at (stand pages.now work.new) page)) }
-    ensures work { ChangesWork result ⊥ pages.now work.new }
+    ensures leaf { OnOk result (leaf_in W (image_at edit.new.next page) ≡ leaf.now) }
+    ensures form { OnOk result (IsLeaf W (image_at edit.new.next page)) }
+    ensures used { OnOk result (edit.new.next.used ≡ edit.old.next.used) }
+    ensures puts { OnOk result
+        (Puts edit.old.next edit.new.next page (image_at edit.new.next page)) }
+    ensures alters { AltersEdit result ⊥ edit.old edit.new }
 {
     let mut image = PageImage::blank();
     write_leaf(leaf, &mut image);
-    put_leaf::<D, W>(pages, work, page, &image)
+    put_leaf::<D, W>(edit, page, &image)
 }
 
 // The image of a leaf goes into the page of the one at the place, and its first entry into memory.
 fn replace_leaf<D: Disk, const W: usize>(
-    pages: &Pages<D>,
-    work: &mut Work,
+    edit: &mut Edit<D>,
     index: &mut Index<W>,
     place: usize,
     image: &PageImage,
 ) -> Result<(), Fault>
-    requires work { IsInProgress pages.now work.old }
     requires place { place < length index.old.pages }
-    requires in_use { InUse (stand pages.now work.old) (slice_index index.old.pages place) }
+    requires in_use { InUse edit.old.next (slice_index index.old.pages place) }
     requires form { IsLeaf W image.now.bytes }
     ensures pages { OnOk result (index.new.pages ≡ index.old.pages) }
     ensures heads { OnOk result (index.new.heads
@@ -91,23 +80,20 @@ fn replace_leaf<D: Disk, const W: usize>(
     ensures list { OnOk result ((index.new.first ≡ index.old.first)
         × (index.new.listed ≡ index.old.listed)) }
     ensures leaf { OnOk result (leaf_in W
-        (image_at (stand pages.now work.new) (slice_index index.old.pages place))
-        ≡ leaf_in W image.now.bytes) }
-    ensures form { OnOk result (IsLeaf W
-        (image_at (stand pages.now work.new) (slice_index index.old.pages place))) }
-    ensures used { OnOk result
-        ((stand pages.now work.new).used ≡ (stand pages.now work.old).used) }
+        (image_at edit.new.next (slice_index index.old.pages place)) ≡ leaf_in W image.now.bytes) }
+    ensures form { OnOk result
+        (IsLeaf W (image_at edit.new.next (slice_index index.old.pages place))) }
+    ensures used { OnOk result (edit.new.next.used ≡ edit.old.next.used) }
     ensures puts { let page = slice_index index.old.pages place in
-        OnOk result (Puts (stand pages.now work.old) (stand pages.now work.new) page
-        (image_at (stand pages.now work.new) page)) }
-    ensures work { ChangesWork result ⊥ pages.now work.new }
+        OnOk result (Puts edit.old.next edit.new.next page (image_at edit.new.next page)) }
+    ensures alters { AltersEdit result ⊥ edit.old edit.new }
 {
     let page = index.pages[place];
     let head = first_in_image(image);
-    put_leaf::<D, W>(pages, work, page, image)?;
+    put_leaf::<D, W>(edit, page, image)?;
     match index.heads.set(place, head) {
         Ok(()) => Ok(()),
-        Err(_) => Err(Fault::OutOfMemory),
+        Err(_) => Err(edit.refuse()),
     }
 }
 
@@ -145,134 +131,119 @@ fn unlist_leaf<const W: usize>(index: &mut Index<W>, place: usize) -> Result<(),
 
 // The image of a leaf goes in place of the one at the place.
 pub(crate) fn set_image<D: Disk, const W: usize>(
-    pages: &Pages<D>,
-    work: &mut Work,
+    edit: &mut Edit<D>,
     index: &mut Index<W>,
     place: usize,
     image: &PageImage,
 ) -> Result<(), Fault>
-    requires work { IsInProgress pages.now work.old }
     requires place { place < length index.old.pages }
-    requires in_use { InUse (stand pages.now work.old) (slice_index index.old.pages place) }
+    requires in_use { InUse edit.old.next (slice_index index.old.pages place) }
     requires form { IsLeaf W image.now.bytes }
     ensures same { OnOk result (index.new.pages ≡ index.old.pages) }
-    ensures shape { OnOk result (Reshapes (HasPages (stand pages.now work.old) index.old.pages)
-        (stand pages.now work.old) (stand pages.now work.new) index.old index.new) }
-    ensures leaves { OnOk result (HasPages (stand pages.now work.old) index.old.pages
-        → (leaves : List (List Entry))
-        → HasLeaves W (stand pages.now work.old) index.old leaves
-        → HasLeaves W (stand pages.now work.new) index.new
-        (slice_set leaves place (leaf_in W image.now.bytes))) }
-    ensures work { ChangesWork result ⊥ pages.now work.new }
+    ensures shape { OnOk result (Reshapes
+        (HasPages edit.old.next index.old.pages) edit.old.next edit.new.next index.old index.new) }
+    ensures leaves { OnOk result (HasPages edit.old.next index.old.pages
+        → (leaves : List (List Entry)) → HasLeaves W edit.old.next index.old leaves → HasLeaves
+        W edit.new.next index.new (slice_set leaves place (leaf_in W image.now.bytes))) }
+    ensures alters { AltersEdit result ⊥ edit.old edit.new }
 {
-    replace_leaf(pages, work, index, place, image)?;
+    replace_leaf(edit, index, place, image)?;
     Ok(())
 }
 
 // The leaf goes in place of the one at the place.
 fn set_leaf<D: Disk, const W: usize>(
-    pages: &Pages<D>,
-    work: &mut Work,
+    edit: &mut Edit<D>,
     index: &mut Index<W>,
     place: usize,
     leaf: &[(IndexKey<W>, u32)],
 ) -> Result<(), Fault>
-    requires work { IsInProgress pages.now work.old }
     requires place { place < length index.old.pages }
-    requires in_use { InUse (stand pages.now work.old) (slice_index index.old.pages place) }
+    requires in_use { InUse edit.old.next (slice_index index.old.pages place) }
     requires some { 1 ≤ length leaf.now }
     requires within { length leaf.now ≤ capacity W }
     ensures same { OnOk result (index.new.pages ≡ index.old.pages) }
-    ensures shape { OnOk result (Reshapes (HasPages (stand pages.now work.old) index.old.pages)
-        (stand pages.now work.old) (stand pages.now work.new) index.old index.new) }
-    ensures leaves { OnOk result (HasPages (stand pages.now work.old) index.old.pages
-        → (leaves : List (List Entry))
-        → HasLeaves W (stand pages.now work.old) index.old leaves
-        → HasLeaves W (stand pages.now work.new) index.new (slice_set leaves place leaf.now)) }
-    ensures work { ChangesWork result ⊥ pages.now work.new }
+    ensures shape { OnOk result (Reshapes
+        (HasPages edit.old.next index.old.pages) edit.old.next edit.new.next index.old index.new) }
+    ensures leaves { OnOk result (HasPages edit.old.next index.old.pages
+        → (leaves : List (List Entry)) → HasLeaves W edit.old.next index.old leaves
+        → HasLeaves W edit.new.next index.new (slice_set leaves place leaf.now)) }
+    ensures alters { AltersEdit result ⊥ edit.old edit.new }
 {
     // For the proof.
     let _count = leaf_count(index);
     let mut image = PageImage::blank();
     write_leaf(leaf, &mut image);
-    set_image(pages, work, index, place, &image)
+    set_image(edit, index, place, &image)
 }
 
 // The leaf goes into a page of its own, which comes to the place.
 pub(crate) fn add_leaf<D: Disk, const W: usize>(
-    pages: &Pages<D>,
-    work: &mut Work,
+    edit: &mut Edit<D>,
     index: &mut Index<W>,
     place: usize,
     leaf: &[(IndexKey<W>, u32)],
 ) -> Result<(), Fault>
-    requires work { IsInProgress pages.now work.old }
     requires place { place ≤ length index.old.pages }
     requires some { 1 ≤ length leaf.now }
     requires within { length leaf.now ≤ capacity W }
-    ensures shape { OnOk result (Reshapes (HasPages (stand pages.now work.old) index.old.pages)
-        (stand pages.now work.old) (stand pages.now work.new) index.old index.new) }
+    ensures shape { OnOk result (Reshapes
+        (HasPages edit.old.next index.old.pages) edit.old.next edit.new.next index.old index.new) }
     ensures count { OnOk result (length index.new.pages ≡ length index.old.pages + 1) }
-    ensures leaves { OnOk result (HasPages (stand pages.now work.old) index.old.pages
-        → (leaves : List (List Entry))
-        → HasLeaves W (stand pages.now work.old) index.old leaves
-        → HasLeaves W (stand pages.now work.new) index.new (insert leaves place leaf.now)) }
+    ensures leaves { OnOk result (HasPages edit.old.next index.old.pages
+        → (leaves : List (List Entry)) → HasLeaves W edit.old.next index.old leaves
+        → HasLeaves W edit.new.next index.new (insert leaves place leaf.now)) }
     ensures before { OnOk result ((other : ℕ) → other < place
         → slice_index index.new.pages other ≡ slice_index index.old.pages other) }
-    ensures kept { OnOk result ((page : ℕ) → InUse (stand pages.now work.old) page
-        → InUse (stand pages.now work.new) page) }
-    ensures work { ChangesWork result (free_pages (stand pages.now work.old).used
-        ≡ 0) pages.now work.new }
+    ensures kept { OnOk result ((page : ℕ) → InUse edit.old.next page → InUse edit.new.next page) }
+    ensures alters { AltersEdit result (free_pages edit.old.next.used ≡ 0) edit.old edit.new }
 {
     // For the proof.
     law_of_frames();
     let _count = leaf_count(index);
     let first = &leaf[0];
     let head = (first.0.copy(), first.1);
-    let page = match pages.allocate(work) {
+    let page = match edit.allocate() {
         Ok(page) => page,
         Err(fault) => return Err(fault),
     };
-    match write_page_leaf(pages, work, page, leaf) {
+    match write_page_leaf(edit, page, leaf) {
         Ok(()) => {}
         Err(fault) => return Err(fault),
     }
     match list_leaf(index, place, page, head) {
         Ok(()) => Ok(()),
-        Err(_) => Err(Fault::OutOfMemory),
+        Err(_) => Err(edit.refuse()),
     }
 }
 
 // The leaf at the place is taken out, and its page is free.
 pub(crate) fn drop_leaf<D: Disk, const W: usize>(
-    pages: &Pages<D>,
-    work: &mut Work,
+    edit: &mut Edit<D>,
     index: &mut Index<W>,
     place: usize,
 ) -> Result<(), Fault>
-    requires work { IsInProgress pages.now work.old }
     requires place { place < length index.old.pages }
-    requires in_use { InUse (stand pages.now work.old) (slice_index index.old.pages place) }
-    ensures shape { OnOk result (Reshapes (HasPages (stand pages.now work.old) index.old.pages)
-        (stand pages.now work.old) (stand pages.now work.new) index.old index.new) }
+    requires in_use { InUse edit.old.next (slice_index index.old.pages place) }
+    ensures shape { OnOk result (Reshapes
+        (HasPages edit.old.next index.old.pages) edit.old.next edit.new.next index.old index.new) }
     ensures gone { OnOk result ((index.new.pages ≡ remove index.old.pages place)
         × (index.new.heads ≡ remove index.old.heads place)) }
-    ensures leaves { OnOk result (HasPages (stand pages.now work.old) index.old.pages
-        → (leaves : List (List Entry))
-        → HasLeaves W (stand pages.now work.old) index.old leaves
-        → HasLeaves W (stand pages.now work.new) index.new (remove leaves place)) }
-    ensures work { ChangesWork result ⊥ pages.now work.new }
+    ensures leaves { OnOk result (HasPages edit.old.next index.old.pages
+        → (leaves : List (List Entry)) → HasLeaves W edit.old.next index.old leaves
+        → HasLeaves W edit.new.next index.new (remove leaves place)) }
+    ensures alters { AltersEdit result ⊥ edit.old edit.new }
 {
     // For the proof.
     law_of_frames();
     let page = leaf_page(index, place);
-    match pages.free(work, page) {
+    match edit.free(page) {
         Ok(()) => {}
         Err(fault) => return Err(fault),
     }
     match unlist_leaf(index, place) {
         Ok(()) => Ok(()),
-        Err(_) => Err(Fault::OutOfMemory),
+        Err(_) => Err(edit.refuse()),
     }
 }
 
@@ -294,28 +265,24 @@ fn share_of(count: usize, most: usize) -> usize
 // The entries go in place of those of the leaf at the place, into that leaf and as many new ones
 // behind it as they need.
 pub(crate) fn spread<D: Disk, const W: usize>(
-    pages: &Pages<D>,
-    work: &mut Work,
+    edit: &mut Edit<D>,
     index: &mut Index<W>,
     place: usize,
     entries: &[(IndexKey<W>, u32)],
 ) -> Result<(), Fault>
-    requires work { IsInProgress pages.now work.old }
     requires place { place < length index.old.pages }
-    requires in_use { InUse (stand pages.now work.old) (slice_index index.old.pages place) }
+    requires in_use { InUse edit.old.next (slice_index index.old.pages place) }
     requires some { 1 ≤ length entries.now }
-    ensures shape { OnOk result (Reshapes (HasPages (stand pages.now work.old) index.old.pages)
-        (stand pages.now work.old) (stand pages.now work.new) index.old index.new) }
+    ensures shape { OnOk result (Reshapes
+        (HasPages edit.old.next index.old.pages) edit.old.next edit.new.next index.old index.new) }
     ensures some { OnOk result (0 < length index.new.pages) }
-    ensures leaves { OnOk result (HasPages (stand pages.now work.old) index.old.pages
-        → (leaves : List (List Entry))
-        → HasLeaves W (stand pages.now work.old) index.old leaves → (more : List (List Entry))
-        × HasLeaves W (stand pages.now work.new) index.new more
-        × (joined_leaves more
-        ≡ joined_leaves (take place leaves)
+    ensures leaves { OnOk result (HasPages edit.old.next index.old.pages
+        → (leaves : List (List Entry)) → HasLeaves W edit.old.next index.old leaves
+        → (more : List (List Entry)) × HasLeaves W edit.new.next index.new more
+        × (joined_leaves more ≡ joined_leaves (take place leaves)
         ++ (entries.now ++ joined_leaves (drop (place + 1) leaves)))) }
-    ensures work { ChangesWork result (free_pages (stand pages.now work.old).used + 1
-        < length entries.now) pages.now work.new }
+    ensures alters { AltersEdit result (free_pages edit.old.next.used + 1
+        < length entries.now) edit.old edit.new }
 {
     // For the proof.
     let _count = leaf_count(index);
@@ -324,13 +291,13 @@ pub(crate) fn spread<D: Disk, const W: usize>(
     let mut rest = entries.len();
     while rest > share {
         let from = rest - share;
-        match add_leaf(pages, work, index, next, &entries[from..rest]) {
+        match add_leaf(edit, index, next, &entries[from..rest]) {
             Ok(()) => {}
             Err(fault) => return Err(fault),
         }
         rest = from;
     }
-    match set_leaf(pages, work, index, place, &entries[..rest]) {
+    match set_leaf(edit, index, place, &entries[..rest]) {
         Ok(()) => Ok(()),
         Err(fault) => Err(fault),
     }

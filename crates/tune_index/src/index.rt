@@ -79,8 +79,8 @@ impl<const W: usize> Index<W> {
         }
     }
 
-    /// The same index again: a command changes copies, and a work that is dropped leaves the index
-    /// that it was made of.
+    /// The same index again: a command changes copies, and a change that is dropped leaves the
+    /// index that it was made of.
     ///
     /// # Errors
     ///

@@ -4,16 +4,14 @@ ghost use Rattle.std.specs.Prelude.{length, IfOk, OnOk, slice_index, slice_index
 ghost use Rattle.tune_pages.specs.Faults.{free_pages};
 ghost use Rattle.tune_pages.specs.Frame.{InUse};
 ghost use Rattle.tune_pages.specs.Kept.{HonestAt};
-ghost use Rattle.tune_pages.specs.Work.{stand};
 ghost use Rattle.index_keys.specs.Entries.{AllFit, Entry, FitsLeaf, IsRising, entry_inserted};
 ghost use Rattle.index_keys.specs.Entries.{inserted_all, rank, removed};
-ghost use Rattle.tune_index.specs.IndexAnswers.{ChangesWork, Edits};
+ghost use Rattle.tune_pages.specs.Editing.{AltersEdit, Edits};
 ghost use Rattle.tune_index.specs.Indexes.{AllLeaves, HasPages, IsIndex, Reshapes};
 ghost use Rattle.tune_index.specs.Indexes.{entries_of};
 ghost use Rattle.tune_index.specs.Inside.LeafLists.{HasLeaves, joined_leaves};
 ghost use Rattle.tune_index.specs.Inside.EntryPlaces.{AllBelow};
 ghost use Rattle.tune_index.specs.Leaves.{IsLeaf, leaf_in, slice_entry};
-ghost use Rattle.tune_pages.specs.Progress.{IsInProgress};
 
 use crate::candidates::read_page_leaf;
 use crate::edit::{add_leaf, drop_leaf, set_image, spread};
@@ -22,10 +20,10 @@ use crate::leaf::{Leaf, capacity_of, leaf_entries};
 use crate::leaf_edits::{insert_in_image, remove_in_image};
 use crate::search::{insert_in, place_of};
 use index_keys::IndexKey;
-use std::alloc::{AllocError, Global};
+use std::alloc::AllocError;
 use tune_disk::Disk;
 use tune_journal::PageImage;
-use tune_pages::{Fault, Pages, Work, law_of_frames, law_of_looks};
+use tune_pages::{Edit, Fault};
 
 // The entries go into a leaf, each in its place.
 fn insert_each<const W: usize>(
@@ -51,44 +49,40 @@ fn insert_each<const W: usize>(
 // The entries go into a leaf whose image was read, and into new leaves behind it where they want
 // those.
 fn spread_in_leaf<D: Disk, const W: usize>(
-    alloc: Global,
-    pages: &Pages<D>,
-    work: &mut Work,
+    edit: &mut Edit<D>,
     index: &mut Index<W>,
     place: usize,
     part: &[(IndexKey<W>, u32)],
     image: &PageImage,
 ) -> Result<(), Fault>
-    requires work { IsInProgress pages.now work.old }
     requires place { place < length index.old.pages }
-    requires in_use { InUse (stand pages.now work.old) (slice_index index.old.pages place) }
+    requires in_use { InUse edit.old.next (slice_index index.old.pages place) }
     requires some { 1 ≤ length part.now }
     requires form { IsLeaf W image.now.bytes }
-    ensures shape { OnOk result (Reshapes (HasPages (stand pages.now work.old) index.old.pages)
-        (stand pages.now work.old) (stand pages.now work.new) index.old index.new) }
+    ensures shape { OnOk result (Reshapes
+        (HasPages edit.old.next index.old.pages) edit.old.next edit.new.next index.old index.new) }
     ensures some { OnOk result (0 < length index.new.pages) }
     ensures fit { OnOk result (AllFit W part.now) }
     ensures leaves { let leaf = leaf_in W image.now.bytes in
-        OnOk result (HasPages (stand pages.now work.old) index.old.pages
-        → IsRising leaf → (leaves : List (List Entry))
-        → HasLeaves W (stand pages.now work.old) index.old leaves → (more : List (List Entry))
-        × HasLeaves W (stand pages.now work.new) index.new more
+        OnOk result (HasPages edit.old.next index.old.pages
+        → IsRising leaf → (leaves : List (List Entry)) → HasLeaves W edit.old.next index.old leaves
+        → (more : List (List Entry)) × HasLeaves W edit.new.next index.new more
         × (joined_leaves more ≡ joined_leaves (take place leaves)
         ++ (inserted_all part.now leaf ++ joined_leaves (drop (place + 1) leaves)))) }
-    ensures work { let leaf = leaf_in W image.now.bytes in ChangesWork result (IsRising leaf
-        → free_pages (stand pages.now work.old).used + 1
-        < length (inserted_all part.now leaf)) pages.now work.new }
+    ensures alters { let leaf = leaf_in W image.now.bytes in
+        AltersEdit result (IsRising leaf → free_pages edit.old.next.used + 1
+        < length (inserted_all part.now leaf)) edit.old edit.new }
 {
     // For the proof.
     let _count = leaf_count(index);
-    let mut leaf = match leaf_entries(alloc, image, part.len()) {
+    let mut leaf = match leaf_entries(edit.alloc(), image, part.len()) {
         Ok(leaf) => leaf,
-        Err(_) => return Err(Fault::OutOfMemory),
+        Err(_) => return Err(edit.refuse()),
     };
     if let Err(_) = insert_each(&mut leaf, part) {
-        return Err(Fault::OutOfMemory);
+        return Err(edit.refuse());
     }
-    match spread(pages, work, index, place, &leaf) {
+    match spread(edit, index, place, &leaf) {
         Ok(()) => Ok(()),
         Err(fault) => Err(fault),
     }
@@ -117,43 +111,39 @@ fn insert_alone<const W: usize>(image: &mut PageImage, part: &[(IndexKey<W>, u32
 // The entries go into a leaf whose image was read. Where one alone goes into it, no list is made of
 // its entries.
 fn insert_in_leaf<D: Disk, const W: usize>(
-    alloc: Global,
-    pages: &Pages<D>,
-    work: &mut Work,
+    edit: &mut Edit<D>,
     index: &mut Index<W>,
     place: usize,
     part: &[(IndexKey<W>, u32)],
     image: &mut PageImage,
 ) -> Result<(), Fault>
-    requires work { IsInProgress pages.now work.old }
     requires place { place < length index.old.pages }
-    requires in_use { InUse (stand pages.now work.old) (slice_index index.old.pages place) }
+    requires in_use { InUse edit.old.next (slice_index index.old.pages place) }
     requires some { 1 ≤ length part.now }
     requires form { IsLeaf W image.old.bytes }
-    ensures shape { OnOk result (Reshapes (HasPages (stand pages.now work.old) index.old.pages)
-        (stand pages.now work.old) (stand pages.now work.new) index.old index.new) }
+    ensures shape { OnOk result (Reshapes
+        (HasPages edit.old.next index.old.pages) edit.old.next edit.new.next index.old index.new) }
     ensures some { OnOk result (0 < length index.new.pages) }
     ensures fit { OnOk result (AllFit W part.now) }
     ensures leaves { let leaf = leaf_in W image.old.bytes in
-        OnOk result (HasPages (stand pages.now work.old) index.old.pages
-        → IsRising leaf → (leaves : List (List Entry))
-        → HasLeaves W (stand pages.now work.old) index.old leaves → (more : List (List Entry))
-        × HasLeaves W (stand pages.now work.new) index.new more
+        OnOk result (HasPages edit.old.next index.old.pages
+        → IsRising leaf → (leaves : List (List Entry)) → HasLeaves W edit.old.next index.old leaves
+        → (more : List (List Entry)) × HasLeaves W edit.new.next index.new more
         × (joined_leaves more ≡ joined_leaves (take place leaves)
         ++ (inserted_all part.now leaf ++ joined_leaves (drop (place + 1) leaves)))) }
-    ensures work { let leaf = leaf_in W image.old.bytes in ChangesWork result (IsRising leaf
-        → free_pages (stand pages.now work.old).used + 1
-        < length (inserted_all part.now leaf)) pages.now work.new }
+    ensures alters { let leaf = leaf_in W image.old.bytes in
+        AltersEdit result (IsRising leaf → free_pages edit.old.next.used + 1
+        < length (inserted_all part.now leaf)) edit.old edit.new }
 {
     // For the proof.
     let _count = leaf_count(index);
     if insert_alone(image, part) {
-        match set_image(pages, work, index, place, image) {
+        match set_image(edit, index, place, image) {
             Ok(()) => return Ok(()),
             Err(fault) => return Err(fault),
         }
     }
-    match spread_in_leaf(alloc, pages, work, index, place, part, image) {
+    match spread_in_leaf(edit, index, place, part, image) {
         Ok(()) => Ok(()),
         Err(fault) => Err(fault),
     }
@@ -161,46 +151,40 @@ fn insert_in_leaf<D: Disk, const W: usize>(
 
 // The entries of a part of a run go into the leaf where they belong.
 fn insert_part<D: Disk, const W: usize>(
-    alloc: Global,
-    pages: &mut Pages<D>,
-    work: &mut Work,
+    edit: &mut Edit<D>,
     index: &mut Index<W>,
     place: usize,
     part: &[(IndexKey<W>, u32)],
 ) -> Result<(), Fault>
-    requires work { IsInProgress pages.old work.old }
-    requires pages { HonestAt D.honest pages.old.disk
-        → HasPages (stand pages.old work.old) index.old.pages }
-    requires form { HonestAt D.honest pages.old.disk
-        → AllLeaves W (stand pages.old work.old) index.old.pages }
+    requires pages { HonestAt D.honest edit.old.base.disk → HasPages edit.old.next index.old.pages }
+    requires form { HonestAt D.honest edit.old.base.disk
+        → AllLeaves W edit.old.next index.old.pages }
     requires place { place < length index.old.pages }
     requires some { 1 ≤ length part.now }
-    ensures shape { OnOk result (Reshapes (HonestAt D.honest pages.new.disk)
-        (stand pages.old work.old) (stand pages.new work.new) index.old index.new) }
+    ensures shape { OnOk result (Reshapes
+        (HonestAt D.honest edit.new.base.disk) edit.old.next edit.new.next index.old index.new) }
     ensures some { OnOk result (0 < length index.new.pages) }
     ensures fit { OnOk result (AllFit W part.now) }
-    ensures leaves { OnOk result (HonestAt D.honest pages.new.disk → (leaves : List (List Entry))
-        → HasLeaves W (stand pages.old work.old) index.old leaves
-        → IsRising (slice_index_or leaves place []) → (more : List (List Entry))
-        × HasLeaves W (stand pages.new work.new) index.new more
-        × (joined_leaves more ≡ joined_leaves (take place leaves)
-        ++ (inserted_all part.now (slice_index_or leaves place [])
-        ++ joined_leaves (drop (place + 1) leaves)))) }
-    ensures edits { Edits D.Disk result (HonestAt D.honest pages.new.disk
-        → (leaves : List (List Entry)) → HasLeaves W (stand pages.old work.old) index.old leaves
-        → IsRising (slice_index_or leaves place []) → free_pages (stand pages.old work.old).used + 1
-        < length (inserted_all part.now (slice_index_or leaves place []))) work.new pages.old
-        pages.new }
+    ensures leaves { OnOk result (HonestAt D.honest edit.new.base.disk
+        → (leaves : List (List Entry))
+        → HasLeaves W edit.old.next index.old leaves → IsRising (slice_index_or leaves place [])
+        → (more : List (List Entry)) × HasLeaves W edit.new.next index.new more
+        × (joined_leaves more ≡ joined_leaves (take place leaves) ++ (inserted_all part.now
+        (slice_index_or leaves place []) ++ joined_leaves (drop (place + 1) leaves)))) }
+    ensures edits { Edits D.Disk result (HonestAt D.honest edit.new.base.disk
+        → (leaves : List (List Entry)) → HasLeaves W edit.old.next index.old leaves
+        → IsRising (slice_index_or leaves place []) → free_pages edit.old.next.used + 1
+        < length (inserted_all part.now (slice_index_or leaves place []))) edit.old edit.new }
 {
     // For the proof.
     let _count = leaf_count(index);
     let page = leaf_page(index, place);
     let mut image = PageImage::blank();
-    match read_page_leaf::<D, W>(pages, work, page, &mut image) {
+    match read_page_leaf::<D, W>(edit, page, &mut image) {
         Ok(()) => {}
         Err(fault) => return Err(fault),
     }
-    match insert_in_leaf(alloc, pages, work, index, place, part, &mut image) {
+    match insert_in_leaf(edit, index, place, part, &mut image) {
         Ok(()) => Ok(()),
         Err(fault) => Err(fault),
     }
@@ -246,40 +230,32 @@ fn part_end<const W: usize>(
 
 // The entries from `at` on that belong into one leaf go into it; the answer is where they end.
 fn insert_from<D: Disk, const W: usize>(
-    alloc: Global,
-    pages: &mut Pages<D>,
-    work: &mut Work,
+    edit: &mut Edit<D>,
     index: &mut Index<W>,
     run: &[(IndexKey<W>, u32)],
     at: usize,
 ) -> Result<usize, Fault>
-    requires work { IsInProgress pages.old work.old }
-    requires pages { HonestAt D.honest pages.old.disk
-        → HasPages (stand pages.old work.old) index.old.pages }
-    requires index { HonestAt D.honest pages.old.disk
-        → IsIndex W (stand pages.old work.old) index.old }
+    requires pages { HonestAt D.honest edit.old.base.disk → HasPages edit.old.next index.old.pages }
+    requires index { HonestAt D.honest edit.old.base.disk → IsIndex W edit.old.next index.old }
     requires some { 0 < length index.old.pages }
     requires rising { IsRising (drop at run.now) }
     requires at { at < length run.now }
-    ensures shape { OnOk result (Reshapes (HonestAt D.honest pages.new.disk)
-        (stand pages.old work.old) (stand pages.new work.new) index.old index.new) }
+    ensures shape { OnOk result (Reshapes
+        (HonestAt D.honest edit.new.base.disk) edit.old.next edit.new.next index.old index.new) }
     ensures some { OnOk result (0 < length index.new.pages) }
     ensures later { IfOk result (λ end. at < end) }
     ensures within { IfOk result (λ end. end ≤ length run.now) }
-    ensures entries { IfOk result (λ end. HonestAt D.honest pages.new.disk
-        → IsIndex W (stand pages.new work.new) index.new
-        × (entries_of W (stand pages.new work.new) index.new.pages
-        ≡ inserted_all (take (end - at) (drop at run.now))
-        (entries_of W (stand pages.old work.old) index.old.pages))) }
-    ensures edits { Edits D.Disk result (HonestAt D.honest pages.new.disk
-        → free_pages (stand pages.old work.old).used + length index.old.pages
-        < length (inserted_all (drop at run.now) (entries_of W (stand pages.old work.old)
-        index.old.pages))) work.new pages.old pages.new }
+    ensures entries { IfOk result (λ end. HonestAt D.honest edit.new.base.disk → IsIndex
+        W edit.new.next index.new × (entries_of W edit.new.next index.new.pages ≡ inserted_all
+        (take (end - at) (drop at run.now)) (entries_of W edit.old.next index.old.pages))) }
+    ensures edits { Edits D.Disk result (HonestAt D.honest edit.new.base.disk
+        → free_pages edit.old.next.used + length index.old.pages < length (inserted_all
+        (drop at run.now) (entries_of W edit.old.next index.old.pages))) edit.old edit.new }
 {
     let entry = &run[at];
     let place = leaf_for(index, &entry.0, entry.1);
     let end = part_end(index, place, run, at);
-    match insert_part(alloc, pages, work, index, place, &run[at..end]) {
+    match insert_part(edit, index, place, &run[at..end]) {
         Ok(()) => Ok(end),
         Err(fault) => Err(fault),
     }
@@ -307,26 +283,23 @@ fn check_run<const W: usize>(run: &[(IndexKey<W>, u32)])
 // The entries of a run make the leaves, where there is none: a leaf of the first one, in whose
 // place they all go, so that no list is made of them. The answer is how many went in.
 fn insert_first<D: Disk, const W: usize>(
-    pages: &Pages<D>,
-    work: &mut Work,
+    edit: &mut Edit<D>,
     index: &mut Index<W>,
     run: &[(IndexKey<W>, u32)],
 ) -> Result<usize, Fault>
-    requires work { IsInProgress pages.now work.old }
     requires some { 1 ≤ length run.now }
     requires rising { IsRising run.now }
-    ensures shape { OnOk result (Reshapes (HasPages (stand pages.now work.old) index.old.pages)
-        (stand pages.now work.old) (stand pages.now work.new) index.old index.new) }
+    ensures shape { OnOk result (Reshapes
+        (HasPages edit.old.next index.old.pages) edit.old.next edit.new.next index.old index.new) }
     ensures some { OnOk result (0 < length index.new.pages) }
     ensures within { IfOk result (λ at. at ≤ length run.now) }
-    ensures entries { IfOk result (λ at. IsIndex W (stand pages.now work.old) index.old
-        → IsIndex W (stand pages.now work.new) index.new
-        × (entries_of W (stand pages.now work.new) index.new.pages
-        ≡ inserted_all (take at run.now)
-        (entries_of W (stand pages.now work.old) index.old.pages))) }
-    ensures work { ChangesWork result ((length index.old.pages ≡ 0)
-        × (free_pages (stand pages.now work.old).used < length run.now)) pages.now work.new }
+    ensures entries { IfOk result (λ at. IsIndex W edit.old.next index.old
+        → IsIndex W edit.new.next index.new × (entries_of W edit.new.next index.new.pages
+        ≡ inserted_all (take at run.now) (entries_of W edit.old.next index.old.pages))) }
+    ensures alters { AltersEdit result ((length index.old.pages ≡ 0)
+        × (free_pages edit.old.next.used < length run.now)) edit.old edit.new }
 {
+    edit.check()?;
     let leaves = leaf_count(index);
     if leaves > 0 {
         return Ok(0);
@@ -334,11 +307,11 @@ fn insert_first<D: Disk, const W: usize>(
     // For the proof.
     let _room = capacity_of(W);
     check_run(run);
-    match add_leaf(pages, work, index, 0, &run[..1]) {
+    match add_leaf(edit, index, 0, &run[..1]) {
         Ok(()) => {}
         Err(fault) => return Err(fault),
     }
-    match spread(pages, work, index, 0, run) {
+    match spread(edit, index, 0, run) {
         Ok(()) => Ok(run.len()),
         Err(fault) => Err(fault),
     }
@@ -352,40 +325,35 @@ impl<const W: usize> Index<W> {
     ///
     /// `FileFull` only where fewer pages are free than the new leaves want, which are no more than
     /// the entries that there would be; `OutOfMemory`; `Device` where the disk failed: the pages
-    /// are then closed. The index and the work are then to be dropped.
+    /// are then closed. `Closed`. The index is then to be dropped.
     pub fn insert_all<D: Disk>(
         &mut self,
-        alloc: Global,
-        pages: &mut Pages<D>,
-        work: &mut Work,
+        edit: &mut Edit<D>,
         run: &[(IndexKey<W>, u32)],
     ) -> Result<(), Fault>
-        requires work { IsInProgress pages.old work.old }
-        requires pages { HonestAt D.honest pages.old.disk
-            → HasPages (stand pages.old work.old) self.old.pages }
-        requires index { HonestAt D.honest pages.old.disk
-            → IsIndex W (stand pages.old work.old) self.old }
+        requires pages { HonestAt D.honest edit.old.base.disk
+            → HasPages edit.old.next self.old.pages }
+        requires index { HonestAt D.honest edit.old.base.disk → IsIndex W edit.old.next self.old }
         requires rising { IsRising run.now }
-        ensures shape { OnOk result (Reshapes (HonestAt D.honest pages.new.disk)
-            (stand pages.old work.old) (stand pages.new work.new) self.old self.new) }
-        ensures entries { OnOk result (HonestAt D.honest pages.new.disk
-            → IsIndex W (stand pages.new work.new) self.new
-            × (entries_of W (stand pages.new work.new) self.new.pages ≡ inserted_all run.now
-            (entries_of W (stand pages.old work.old) self.old.pages))) }
-        ensures edits { Edits D.Disk result (HonestAt D.honest pages.new.disk
-            → free_pages (stand pages.old work.old).used + length self.old.pages
-            < length (inserted_all run.now (entries_of W (stand pages.old work.old)
-            self.old.pages))) work.new pages.old pages.new }
+        ensures shape { OnOk result (Reshapes
+            (HonestAt D.honest edit.new.base.disk) edit.old.next edit.new.next self.old self.new) }
+        ensures entries { OnOk result (HonestAt D.honest edit.new.base.disk
+            → IsIndex W edit.new.next self.new × (entries_of W edit.new.next self.new.pages
+            ≡ inserted_all run.now (entries_of W edit.old.next self.old.pages))) }
+        ensures edits { Edits D.Disk result (HonestAt D.honest edit.new.base.disk
+            → free_pages edit.old.next.used + length self.old.pages < length
+            (inserted_all run.now (entries_of W edit.old.next self.old.pages))) edit.old edit.new }
     {
+        edit.check()?;
         if run.is_empty() {
             return Ok(());
         }
-        let mut at = match insert_first(pages, work, self, run) {
+        let mut at = match insert_first(edit, self, run) {
             Ok(at) => at,
             Err(fault) => return Err(fault),
         };
         while at < run.len() {
-            match insert_from(alloc, pages, work, self, run, at) {
+            match insert_from(edit, self, run, at) {
                 Ok(end) => at = end,
                 Err(fault) => return Err(fault),
             }
@@ -400,35 +368,28 @@ impl<const W: usize> Index<W> {
     /// As of `insert_all`.
     pub fn insert<D: Disk>(
         &mut self,
-        alloc: Global,
-        pages: &mut Pages<D>,
-        work: &mut Work,
+        edit: &mut Edit<D>,
         key: IndexKey<W>,
         value: u32,
     ) -> Result<(), Fault>
-        requires work { IsInProgress pages.old work.old }
-        requires pages { HonestAt D.honest pages.old.disk
-            → HasPages (stand pages.old work.old) self.old.pages }
-        requires index { HonestAt D.honest pages.old.disk
-            → IsIndex W (stand pages.old work.old) self.old }
-        ensures shape { OnOk result (Reshapes (HonestAt D.honest pages.new.disk)
-            (stand pages.old work.old) (stand pages.new work.new) self.old self.new) }
-        ensures entries { OnOk result (HonestAt D.honest pages.new.disk
-            → IsIndex W (stand pages.new work.new) self.new
-            × (entries_of W (stand pages.new work.new) self.new.pages
-            ≡ entry_inserted (key.entry, value)
-            (entries_of W (stand pages.old work.old) self.old.pages))) }
-        ensures edits { Edits D.Disk result (HonestAt D.honest pages.new.disk
-            → free_pages (stand pages.old work.old).used + length self.old.pages
-            < length (entry_inserted (key.entry, value) (entries_of W (stand pages.old work.old)
-            self.old.pages))) work.new pages.old pages.new }
+        requires pages { HonestAt D.honest edit.old.base.disk
+            → HasPages edit.old.next self.old.pages }
+        requires index { HonestAt D.honest edit.old.base.disk → IsIndex W edit.old.next self.old }
+        ensures shape { OnOk result (Reshapes
+            (HonestAt D.honest edit.new.base.disk) edit.old.next edit.new.next self.old self.new) }
+        ensures entries { OnOk result (HonestAt D.honest edit.new.base.disk
+            → IsIndex W edit.new.next self.new × (entries_of W edit.new.next self.new.pages
+            ≡ entry_inserted (key.entry, value) (entries_of W edit.old.next self.old.pages))) }
+        ensures edits { Edits D.Disk result (HonestAt D.honest edit.new.base.disk
+            → free_pages edit.old.next.used + length self.old.pages < length (entry_inserted
+            (key.entry, value) (entries_of W edit.old.next self.old.pages))) edit.old edit.new }
     {
-        let mut run = Vec::new(alloc);
+        let mut run = Vec::new(edit.alloc());
         match run.push((key, value)) {
             Ok(()) => {}
-            Err(_) => return Err(Fault::OutOfMemory),
+            Err(_) => return Err(edit.refuse()),
         }
-        match self.insert_all(alloc, pages, work, &run) {
+        match self.insert_all(edit, &run) {
             Ok(()) => Ok(()),
             Err(fault) => Err(fault),
         }
@@ -439,36 +400,31 @@ impl<const W: usize> Index<W> {
     ///
     /// # Errors
     ///
-    /// `OutOfMemory`; `Device` where the disk failed: the pages are then closed. The index and the
-    /// work are then to be dropped.
+    /// `OutOfMemory`; `Device` where the disk failed: the pages are then closed. `Closed`. The
+    /// index is then to be dropped.
     pub fn remove<D: Disk>(
         &mut self,
-        alloc: Global,
-        pages: &mut Pages<D>,
-        work: &mut Work,
+        edit: &mut Edit<D>,
         key: &IndexKey<W>,
         value: u32,
     ) -> Result<(), Fault>
-        requires work { IsInProgress pages.old work.old }
-        requires pages { HonestAt D.honest pages.old.disk
-            → HasPages (stand pages.old work.old) self.old.pages }
-        requires index { HonestAt D.honest pages.old.disk
-            → IsIndex W (stand pages.old work.old) self.old }
-        ensures shape { OnOk result (Reshapes (HonestAt D.honest pages.new.disk)
-            (stand pages.old work.old) (stand pages.new work.new) self.old self.new) }
-        ensures entries { OnOk result (HonestAt D.honest pages.new.disk
-            → IsIndex W (stand pages.new work.new) self.new
-            × (entries_of W (stand pages.new work.new) self.new.pages
-            ≡ removed (key.now, value)
-            (entries_of W (stand pages.old work.old) self.old.pages))) }
-        ensures edits { Edits D.Disk result ⊥ work.new pages.old pages.new }
+        requires pages { HonestAt D.honest edit.old.base.disk
+            → HasPages edit.old.next self.old.pages }
+        requires index { HonestAt D.honest edit.old.base.disk → IsIndex W edit.old.next self.old }
+        ensures shape { OnOk result (Reshapes
+            (HonestAt D.honest edit.new.base.disk) edit.old.next edit.new.next self.old self.new) }
+        ensures entries { OnOk result (HonestAt D.honest edit.new.base.disk
+            → IsIndex W edit.new.next self.new × (entries_of W edit.new.next self.new.pages
+            ≡ removed (key.now, value) (entries_of W edit.old.next self.old.pages))) }
+        ensures edits { Edits D.Disk result ⊥ edit.old edit.new }
     {
+        edit.check()?;
         let leaves = leaf_count(self);
         if leaves == 0 {
             return Ok(());
         }
         let place = leaf_for(self, key, value);
-        match remove_at(pages, work, self, place, key, value) {
+        match remove_at(edit, self, place, key, value) {
             Ok(()) => Ok(()),
             Err(fault) => Err(fault),
         }
@@ -477,45 +433,41 @@ impl<const W: usize> Index<W> {
 
 // The entry goes out of the leaf at the place.
 fn remove_at<D: Disk, const W: usize>(
-    pages: &mut Pages<D>,
-    work: &mut Work,
+    edit: &mut Edit<D>,
     index: &mut Index<W>,
     place: usize,
     key: &IndexKey<W>,
     value: u32,
 ) -> Result<(), Fault>
-    requires work { IsInProgress pages.old work.old }
-    requires pages { HonestAt D.honest pages.old.disk
-        → HasPages (stand pages.old work.old) index.old.pages }
-    requires form { HonestAt D.honest pages.old.disk
-        → AllLeaves W (stand pages.old work.old) index.old.pages }
+    requires pages { HonestAt D.honest edit.old.base.disk → HasPages edit.old.next index.old.pages }
+    requires form { HonestAt D.honest edit.old.base.disk
+        → AllLeaves W edit.old.next index.old.pages }
     requires place { place < length index.old.pages }
-    ensures shape { OnOk result (Reshapes (HonestAt D.honest pages.new.disk)
-        (stand pages.old work.old) (stand pages.new work.new) index.old index.new) }
-    ensures leaves { OnOk result (HonestAt D.honest pages.new.disk → (leaves : List (List Entry))
-        → HasLeaves W (stand pages.old work.old) index.old leaves
-        → IsRising (slice_index_or leaves place []) → (more : List (List Entry))
-        × HasLeaves W (stand pages.new work.new) index.new more
-        × (joined_leaves more ≡ joined_leaves (take place leaves)
-        ++ (removed (key.now, value) (slice_index_or leaves place [])
-        ++ joined_leaves (drop (place + 1) leaves)))) }
-    ensures edits { Edits D.Disk result ⊥ work.new pages.old pages.new }
+    ensures shape { OnOk result (Reshapes
+        (HonestAt D.honest edit.new.base.disk) edit.old.next edit.new.next index.old index.new) }
+    ensures leaves { OnOk result (HonestAt D.honest edit.new.base.disk
+        → (leaves : List (List Entry))
+        → HasLeaves W edit.old.next index.old leaves → IsRising (slice_index_or leaves place [])
+        → (more : List (List Entry)) × HasLeaves W edit.new.next index.new more
+        × (joined_leaves more ≡ joined_leaves (take place leaves) ++ (removed (key.now, value)
+        (slice_index_or leaves place []) ++ joined_leaves (drop (place + 1) leaves)))) }
+    ensures edits { Edits D.Disk result ⊥ edit.old edit.new }
 {
     // For the proof.
     let _count = leaf_count(index);
     let page = leaf_page(index, place);
     let mut image = PageImage::blank();
-    match read_page_leaf::<D, W>(pages, work, page, &mut image) {
+    match read_page_leaf::<D, W>(edit, page, &mut image) {
         Ok(()) => {}
         Err(fault) => return Err(fault),
     }
     if remove_in_image(&mut image, key, value) {
-        match set_image(pages, work, index, place, &image) {
+        match set_image(edit, index, place, &image) {
             Ok(()) => return Ok(()),
             Err(fault) => return Err(fault),
         }
     }
-    match drop_leaf(pages, work, index, place) {
+    match drop_leaf(edit, index, place) {
         Ok(()) => Ok(()),
         Err(fault) => Err(fault),
     }

@@ -3,16 +3,14 @@ ghost use Rattle.std.specs.Prelude.{◌≡◌, ◌*◌, length, true, IfOk, OnOk
 ghost use Rattle.tune_pages.specs.Faults.{pages_for};
 ghost use Rattle.tune_pages.specs.FreePages.{TakesAtMost};
 ghost use Rattle.tune_pages.specs.Kept.{HonestAt};
-ghost use Rattle.tune_pages.specs.Work.{stand};
-ghost use Rattle.tune_index.specs.IndexAnswers.{Edits};
+ghost use Rattle.tune_pages.specs.Editing.{Edits};
 ghost use Rattle.tune_index.specs.ListedLeaves.{HasList, StoresList, listed_bytes};
-ghost use Rattle.tune_pages.specs.Progress.{IsInProgress};
 
 use crate::index::Index;
 use crate::leaf::push_value;
 use std::alloc::{AllocError, Global};
 use tune_disk::Disk;
-use tune_pages::{Fault, Pages, Work, law_of_chains};
+use tune_pages::{Edit, Fault, law_of_chains};
 
 // The bytes of numbers, four for each.
 fn write_numbers(alloc: Global, numbers: &[u32]) -> Result<Vec<u8>, AllocError>
@@ -62,48 +60,39 @@ impl<const W: usize> Index<W> {
     /// # Errors
     ///
     /// `FileFull` only where fewer pages are free than the list wants; `OutOfMemory`; `Device`
-    /// where the disk failed: the pages are then closed. The index and the work are then to be
-    /// dropped.
-    pub fn store<D: Disk>(
-        &mut self,
-        alloc: Global,
-        pages: &mut Pages<D>,
-        work: &mut Work,
-    ) -> Result<u32, Fault>
-        requires work { IsInProgress pages.old work.old }
-        requires list { HonestAt D.honest pages.old.disk
-            → HasList (stand pages.old work.old) self.old }
+    /// where the disk failed: the pages are then closed. `Closed`. The index is then to be dropped.
+    pub fn store<D: Disk>(&mut self, edit: &mut Edit<D>) -> Result<u32, Fault>
+        requires list { HonestAt D.honest edit.old.base.disk → HasList edit.old.next self.old }
         ensures leaves { OnOk result ((self.new.pages ≡ self.old.pages)
             × (self.new.heads ≡ self.old.heads)) }
         ensures list { IfOk result (λ first.
             (self.new.first ≡ first) × (self.new.listed ≡ true)) }
-        ensures stores { IfOk result (λ first. HonestAt D.honest pages.new.disk → StoresList
-            (stand pages.old work.old) (stand pages.new work.new) self.old.first first
-            self.old.pages) }
-        ensures takes { HonestAt D.honest pages.new.disk
-            → TakesAtMost (pages_for (4 * length self.old.pages)) result
-            (stand pages.old work.old) (stand pages.new work.new) }
-        ensures edits { Edits D.Disk result (Unit {0}) work.new pages.old pages.new }
+        ensures stores { IfOk result (λ first. HonestAt D.honest edit.new.base.disk
+            → StoresList edit.old.next edit.new.next self.old.first first self.old.pages) }
+        ensures takes { HonestAt D.honest edit.new.base.disk → TakesAtMost
+            (pages_for (4 * length self.old.pages)) result edit.old.next edit.new.next }
+        ensures edits { Edits D.Disk result (Unit {0}) edit.old edit.new }
     {
         // For the proof.
         law_of_chains();
+        edit.check()?;
         match share_heads(self) {
             Ok(()) => {}
-            Err(_) => return Err(Fault::OutOfMemory),
+            Err(_) => return Err(edit.refuse()),
         }
         let (first, listed) = list_of(self);
         if listed {
             return Ok(first);
         }
-        let bytes = match write_list(alloc, self) {
+        let bytes = match write_list(edit.alloc(), self) {
             Ok(bytes) => bytes,
-            Err(_) => return Err(Fault::OutOfMemory),
+            Err(_) => return Err(edit.refuse()),
         };
-        match pages.free_chain(work, first) {
+        match edit.free_chain(first) {
             Ok(()) => {}
             Err(fault) => return Err(fault),
         }
-        let next = match pages.put_chain(work, &bytes) {
+        let next = match edit.put_chain(&bytes) {
             Ok(next) => next,
             Err(fault) => return Err(fault),
         };

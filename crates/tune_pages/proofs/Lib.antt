@@ -9,6 +9,7 @@ pub mod Beginning
 pub mod FreedPages
 pub mod Frames
 pub mod Looking
+pub mod Edits
 pub mod Marks
 pub mod Uses
 pub mod Walks

@@ -1,6 +1,8 @@
 pub mod Chain
 pub mod Claim
 pub mod Claims
+pub mod Edited
+pub mod Editing
 pub mod Faults
 pub mod Frame
 pub mod FreePages

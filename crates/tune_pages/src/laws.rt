@@ -1,22 +1,17 @@
-// What calls with a work leave alone, what they take, and what reads come to.
-ghost use Rattle.std.specs.Prelude.{◌≡◌, ◌≢◌, ◌+◌, ◌<◌, ◌≤◌, ◌++◌, [], ◌∷◌, ℕ, List, All, length};
-ghost use Rattle.std.specs.Prelude.{Bool, true, false, slice_index_or, Result, Ok, Err, IfOk};
+// What calls with a work leave alone, and what they take.
+ghost use Rattle.std.specs.Prelude.{◌≡◌, ◌+◌, ◌<◌, ◌≤◌, ◌++◌, [], ◌∷◌, ℕ, List, All, length};
+ghost use Rattle.std.specs.Prelude.{Bool, true, false, slice_index_or, Result, Ok, IfOk};
 ghost use Rattle.tune_journal.specs.FileOffsets.{block_bytes};
 ghost use Rattle.tune_pages.specs.Chain.{IsChain};
 ghost use Rattle.tune_pages.specs.Faults.{AnswersWork, free_pages, pages_for};
 ghost use Rattle.tune_pages.specs.FreePages.{TakesAtMost};
 ghost use Rattle.tune_pages.specs.Frame.{Apart, AllApart, Allocates, Frees, Puts, TradesPages};
-ghost use Rattle.tune_pages.specs.Kept.{Kept, HonestAt};
-ghost use Rattle.tune_pages.specs.PageLooks.{LooksAt, SameStand};
 ghost use Rattle.tune_pages.specs.Stand.{Stand, IsUsed, IsFree, IsFull, IsLeastFree};
 ghost use Rattle.tune_pages.specs.Stand.{AllUsed, AllFree, marked, PutsChain, HasChain};
 ghost use Rattle.tune_pages.specs.Stand.{taken, with_page, without_page, without_pages};
-ghost use Rattle.tune_pages.specs.Work.{stand, Fits, FitsOn, stand_on};
+ghost use Rattle.tune_pages.specs.Work.{stand, FitsOn, stand_on};
 ghost use Rattle.tune_pages.specs.declared.fault.Fault.{Fault};
-ghost use Rattle.tune_pages.specs.declared.fault.Fault.TheVariants.{Device};
 ghost use Rattle.tune_pages.specs.declared.work.Work.{Work};
-
-use tune_disk::Disk;
 
 /// The laws of chains. They speak of pages as a work stands for them (`Stand`), and of what each
 /// call with a work makes of these: its clause `stand` or `chain`.
@@ -151,41 +146,4 @@ pub fn law_of_free_pages<T, U>()
     ensures next { (value : T) (result : Result U Fault) (most more : ℕ) (one two three : Stand)
         → TakesAtMost most (Ok value) one two → TakesAtMost more result two three
         → TakesAtMost (most + more) result one three }
-{}
-
-/// The laws of looks: what calls that only look come to, one after another. They speak of `Pages`
-/// as they are before such calls, between them and after them.
-///
-/// - `none`: no call looks.
-/// - `next`: a look that went well and a next one, whatever this answers, are one look, with the
-///   answer of the next one.
-/// - `refused`: a caller of a look that went well may refuse for a reason that is not the disk's.
-/// - `closed`: where the disk showed what cannot be, a caller may answer `Device`, as `close` does.
-/// - `fits`, `stand`: after a look that went well a work stands for the same as before.
-/// - `stands`: what stands for the same after one look, and the same again after the next, stands
-///   for the same after both.
-pub fn law_of_looks<D: Disk, T, U>()
-    ensures none { (value : T) (one : Kept D)
-        → LooksAt D.honest D.failures D.state (Ok value) one one }
-    ensures next { (value : T) (result : Result U Fault) (one two three : Kept D)
-        → LooksAt D.honest D.failures D.state (Ok value) one two
-        → LooksAt D.honest D.failures D.state result two three
-        → LooksAt D.honest D.failures D.state result one three }
-    ensures refused { (value : T) (fault : Fault) (one two : Kept D) → fault ≢ Device
-        → LooksAt D.honest D.failures D.state (Ok value) one two
-        → LooksAt {T = U} D.honest D.failures D.state (Err fault) one two }
-    ensures closed { (value : T) (one two three : Kept D)
-        → LooksAt D.honest D.failures D.state (Ok value) one two
-        → three.disk ≡ two.disk → (HonestAt D.honest two.disk → ⊥)
-        → LooksAt {T = U} D.honest D.failures D.state (Err Device) one three }
-    ensures fits { (value : T) (one two : Kept D) (work : Work)
-        → LooksAt D.honest D.failures D.state (Ok value) one two → Fits one work → Fits two work }
-    ensures stand { (value : T) (one two : Kept D) (work : Work)
-        → LooksAt D.honest D.failures D.state (Ok value) one two
-        → SameStand (HonestAt D.honest two.disk) (stand one work) (stand two work) }
-    ensures stands { (one two : Kept D) (old now new : Stand)
-        → (HonestAt D.honest two.disk → HonestAt D.honest one.disk)
-        → SameStand (HonestAt D.honest one.disk) old now
-        → SameStand (HonestAt D.honest two.disk) now new
-        → SameStand (HonestAt D.honest two.disk) old new }
 {}

@@ -7,7 +7,7 @@ ghost use Rattle.tune_journal.specs.FileOffsets.{block_bytes, most_pages};
 ghost use Rattle.tune_pages.specs.Inside.Freed.{Unfrees, IsEnd, IsPutIn};
 ghost use Rattle.tune_pages.specs.Work.{Falls};
 
-use std::alloc::AllocError;
+use std::alloc::{AllocError, Global};
 use std::collections::VecDeque;
 use tune_journal::Changes;
 
@@ -24,6 +24,15 @@ pub struct Work {
 }
 
 impl Work {
+    // No change of any pages. It takes no memory.
+    pub(crate) fn none(alloc: Global) -> Work {
+        Work {
+            changes: Changes::new(alloc),
+            frontier: 0,
+            freed: VecDeque::new(alloc),
+        }
+    }
+
     // The least of the freed pages; the limit where none is freed.
     pub(crate) fn end(&self, limit: u32) -> u32
         ensures { IsEnd result limit self.now.freed.items }

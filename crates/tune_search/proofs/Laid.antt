@@ -6,12 +6,8 @@ use Rattle.tune_pages.specs.Frame.{TradesPages}
 use Rattle.tune_pages.specs.Stand.{Stand, IsUsed, AllUsed, IsFree, AllFree, marked, HasChain}
 use Rattle.tune_pages.proofs.Marks.{apart_all, apart_left, apart_right, used_each}
 use Rattle.tune_pages.proofs.Frames.{free_used}
-use Rattle.tune_pages.proofs.Looking.{stand_marks}
-use Rattle.tune_pages.proofs.Uses.{stand_root, stand_inside}
-use Rattle.tune_pages.specs.Kept.{Kept}
+use Rattle.tune_pages.specs.Edited.{Edited, IsGoing}
 use Rattle.tune_pages.specs.PageLooks.{SameKept}
-use Rattle.tune_pages.specs.Work.{stand, Fits}
-use Rattle.tune_pages.specs.declared.work.Work.{Work}
 use Rattle.tune_pages.specs.Chain.{IsChain, Leads, next_page_of}
 use Rattle.tune_journal.specs.Pages.{page_at}
 use Rattle.std.proofs.lemmas.List.{append-nil}
@@ -30,18 +26,18 @@ use Rattle.tune_search.specs.IndexParts.{HoldsIndexAmong, HoldsSomeIndex, LaysIn
 use Rattle.tune_search.proofs.LeafParts.{leaf_parts, entries_leaves, firsts_leaves, form_leaves, heads_leaves, leaves_back, leaves_form, no_chain, stand_leaves}
 use Rattle.tune_search.proofs.LeafParts.{trails_leaves}
 
--- how a stand that a work makes is
+-- how a stand that a change makes is
 pub record IsWorked (old new : Stand) : Type 0 where
   pub marks : length new.used ≡ length old.used
   pub root : IsUsed new.used 0
   pub inside : (page : ℕ) → IsUsed new.used page → page < length new.pages
 
-pub worked : {D : Type 0} (honest : D → Type 0) (old new : Kept D) (was is : Work) → Fits old was → Fits new is → SameKept honest old new
-    → IsWorked (stand old was) (stand new is)
-worked honest old new was is fits still same = record {
-  marks = stand_marks new.pages new.used is still ∙ ap length same.used ∙ sym (stand_marks old.pages old.used was fits);
-  root = stand_root new.pages new.used is still;
-  inside = λ page used. stand_inside new.pages new.used is page still used;
+pub worked : {D : Type 0} (honest : D → Type 0) (old new : Edited D) → IsGoing old → IsGoing new → SameKept honest old.base new.base
+    → IsWorked old.next new.next
+worked honest old new was is same = record {
+  marks = is.marks ∙ ap length same.used ∙ sym was.marks;
+  root = is.root;
+  inside = is.inside;
 }
 
 -- the leaves of an index are those of its pages

@@ -2,16 +2,14 @@
 ghost use Rattle.std.specs.Prelude.{◌≡◌, ◌+◌, ◌*◌, ◌<◌, ℕ, true, length, List};
 ghost use Rattle.std.specs.Prelude.{Contains, IfErr, IfOk, OnOk};
 ghost use Rattle.tune_pages.specs.Claim.{IsChainFault, LooksOpening};
+ghost use Rattle.tune_pages.specs.Editing.{Consults, Edits};
 ghost use Rattle.tune_pages.specs.Faults.{free_pages, pages_for};
 ghost use Rattle.tune_pages.specs.FreePages.{TakesAtMost};
 ghost use Rattle.tune_pages.specs.Kept.{HonestAt};
-ghost use Rattle.tune_pages.specs.Work.{stand};
-ghost use Rattle.tune_pages.specs.Progress.{IsInProgress, Reads};
 ghost use Rattle.index_keys.specs.Entries.{Entry, IsRising, inserted_all, removed_all};
 ghost use Rattle.index_keys.specs.Holdings.{HoldsEntries};
 ghost use Rattle.tune_incipit.specs.Incipits.{finds_steps};
 ghost use Rattle.tune_incipit.specs.ScaleAndIncipitKeys.{incipit_keys};
-ghost use Rattle.tune_index.specs.IndexAnswers.{Edits};
 ghost use Rattle.tune_index.specs.Indexes.{KeepsBalance};
 ghost use Rattle.tune_index.specs.ListedLeaves.{IsStored, LoadsIndex, index_with, pages_claimed};
 ghost use Rattle.tune_parts.specs.Parts.{Part};
@@ -31,7 +29,7 @@ use std::alloc::{AllocError, Global};
 use tune_disk::Disk;
 use tune_incipit::{EightNoteKeys, SomeSteps, TwelveNoteKeys};
 use tune_index::{Index, Keyed};
-use tune_pages::{ClaimFault, Fault, Opening, Pages, Work};
+use tune_pages::{ClaimFault, Edit, Fault, Opening};
 
 // The index of incipits: its keys have four bytes for each note.
 #[derive(Drop)]
@@ -125,140 +123,104 @@ impl IncipitIndex {
     }
 
     // Puts in entries that rise.
-    pub fn put<D: Disk>(
-        &mut self,
-        alloc: Global,
-        pages: &mut Pages<D>,
-        work: &mut Work,
-        run: &IncipitEntries,
-    ) -> Result<(), Fault>
-        requires work { IsInProgress pages.old work.old }
+    pub fn put<D: Disk>(&mut self, edit: &mut Edit<D>, run: &IncipitEntries) -> Result<(), Fault>
         requires notes { notes_of_entries run.now ≡ notes_of_index self.old }
-        requires index { HonestAt D.honest pages.old.disk → HoldsSomeIndex
-            (incipit_bytes (notes_of_index self.old)) (stand pages.old work.old)
-            (shape_of self.old) }
+        requires index { HonestAt D.honest edit.old.base.disk → HoldsSomeIndex
+            (incipit_bytes (notes_of_index self.old)) edit.old.next (shape_of self.old) }
         requires rising { IsRising (entries_of_incipits run.now) }
         ensures notes { OnOk result (notes_of_index self.new ≡ notes_of_index self.old) }
-        ensures lays { OnOk result (HonestAt D.honest pages.new.disk → LaysIndex
-            (incipit_bytes (notes_of_index self.old)) (stand pages.old work.old)
-            (stand pages.new work.new) (shape_of self.old) (shape_of self.new)
-            (λ entries. inserted_all (entries_of_incipits run.now) entries)) }
-        ensures balance { OnOk result (KeepsBalance (stand pages.old work.old)
-            (stand pages.new work.new) (shape_of self.old).pages (shape_of self.new).pages) }
-        ensures edits { Edits D.Disk result (HonestAt D.honest pages.new.disk
+        ensures lays { OnOk result (HonestAt D.honest edit.new.base.disk → LaysIndex (incipit_bytes
+            (notes_of_index self.old)) edit.old.next edit.new.next (shape_of self.old)
+            (shape_of self.new) (λ entries. inserted_all (entries_of_incipits run.now) entries)) }
+        ensures balance { OnOk result (KeepsBalance edit.old.next edit.new.next
+            (shape_of self.old).pages (shape_of self.new).pages) }
+        ensures edits { Edits D.Disk result (HonestAt D.honest edit.new.base.disk
             → (before after : List Part) (parts : IndexParts) (entries : List Entry)
-            → HoldsIndexAmong (incipit_bytes (notes_of_index self.old)) (stand pages.old work.old)
+            → HoldsIndexAmong (incipit_bytes (notes_of_index self.old)) edit.old.next
             (index_with (shape_of self.old) entries) before after parts
-            → free_pages (stand pages.old work.old).used + length (shape_of self.old).pages
-            < length (inserted_all (entries_of_incipits run.now) entries)) work.new pages.old
-            pages.new }
+            → free_pages edit.old.next.used + length (shape_of self.old).pages
+            < length (inserted_all (entries_of_incipits run.now) entries)) edit.old edit.new }
     {
         match self {
             IncipitIndex::Eight(index) => match run {
-                IncipitEntries::Eight(run) => put_run(alloc, pages, work, index, run),
+                IncipitEntries::Eight(run) => put_run(edit, index, run),
                 IncipitEntries::Twelve(_) => unreachable!(),
             },
             IncipitIndex::Twelve(index) => match run {
-                IncipitEntries::Twelve(run) => put_run(alloc, pages, work, index, run),
+                IncipitEntries::Twelve(run) => put_run(edit, index, run),
                 IncipitEntries::Eight(_) => unreachable!(),
             },
         }
     }
 
     // Takes entries out.
-    pub fn take<D: Disk>(
-        &mut self,
-        alloc: Global,
-        pages: &mut Pages<D>,
-        work: &mut Work,
-        run: &IncipitEntries,
-    ) -> Result<(), Fault>
-        requires work { IsInProgress pages.old work.old }
+    pub fn take<D: Disk>(&mut self, edit: &mut Edit<D>, run: &IncipitEntries) -> Result<(), Fault>
         requires notes { notes_of_entries run.now ≡ notes_of_index self.old }
-        requires index { HonestAt D.honest pages.old.disk → HoldsSomeIndex
-            (incipit_bytes (notes_of_index self.old)) (stand pages.old work.old)
-            (shape_of self.old) }
+        requires index { HonestAt D.honest edit.old.base.disk → HoldsSomeIndex
+            (incipit_bytes (notes_of_index self.old)) edit.old.next (shape_of self.old) }
         ensures notes { OnOk result (notes_of_index self.new ≡ notes_of_index self.old) }
-        ensures lays { OnOk result (HonestAt D.honest pages.new.disk → LaysIndex
-            (incipit_bytes (notes_of_index self.old)) (stand pages.old work.old)
-            (stand pages.new work.new) (shape_of self.old) (shape_of self.new)
-            (λ entries. removed_all (entries_of_incipits run.now) entries)) }
-        ensures balance { OnOk result (KeepsBalance (stand pages.old work.old)
-            (stand pages.new work.new) (shape_of self.old).pages (shape_of self.new).pages) }
-        ensures edits { Edits D.Disk result ⊥ work.new pages.old pages.new }
+        ensures lays { OnOk result (HonestAt D.honest edit.new.base.disk → LaysIndex (incipit_bytes
+            (notes_of_index self.old)) edit.old.next edit.new.next (shape_of self.old)
+            (shape_of self.new) (λ entries. removed_all (entries_of_incipits run.now) entries)) }
+        ensures balance { OnOk result (KeepsBalance edit.old.next edit.new.next
+            (shape_of self.old).pages (shape_of self.new).pages) }
+        ensures edits { Edits D.Disk result ⊥ edit.old edit.new }
     {
         match self {
             IncipitIndex::Eight(index) => match run {
-                IncipitEntries::Eight(run) => take_run(alloc, pages, work, index, run),
+                IncipitEntries::Eight(run) => take_run(edit, index, run),
                 IncipitEntries::Twelve(_) => unreachable!(),
             },
             IncipitIndex::Twelve(index) => match run {
-                IncipitEntries::Twelve(run) => take_run(alloc, pages, work, index, run),
+                IncipitEntries::Twelve(run) => take_run(edit, index, run),
                 IncipitEntries::Eight(_) => unreachable!(),
             },
         }
     }
 
     // Stores the list, and gives the first page of its chain: 0 where there is no leaf.
-    pub fn store<D: Disk>(
-        &mut self,
-        alloc: Global,
-        pages: &mut Pages<D>,
-        work: &mut Work,
-    ) -> Result<u32, Fault>
-        requires work { IsInProgress pages.old work.old }
-        requires index { HonestAt D.honest pages.old.disk → HoldsSomeIndex
-            (incipit_bytes (notes_of_index self.old)) (stand pages.old work.old)
-            (shape_of self.old) }
+    pub fn store<D: Disk>(&mut self, edit: &mut Edit<D>) -> Result<u32, Fault>
+        requires index { HonestAt D.honest edit.old.base.disk → HoldsSomeIndex
+            (incipit_bytes (notes_of_index self.old)) edit.old.next (shape_of self.old) }
         ensures notes { OnOk result (notes_of_index self.new ≡ notes_of_index self.old) }
-        ensures lays { OnOk result (HonestAt D.honest pages.new.disk → LaysIndex
-            (incipit_bytes (notes_of_index self.old)) (stand pages.old work.old)
-            (stand pages.new work.new) (shape_of self.old) (shape_of self.new)
-            (λ entries. entries)) }
+        ensures lays { OnOk result (HonestAt D.honest edit.new.base.disk
+            → LaysIndex (incipit_bytes (notes_of_index self.old)) edit.old.next edit.new.next
+            (shape_of self.old) (shape_of self.new) (λ entries. entries)) }
         ensures list { IfOk result (λ first. ((shape_of self.new).first ≡ first)
             × ((shape_of self.new).listed ≡ true)) }
         ensures leaves { OnOk result ((shape_of self.new).pages ≡ (shape_of self.old).pages) }
-        ensures takes { HonestAt D.honest pages.new.disk
-            → TakesAtMost (pages_for (4 * length (shape_of self.old).pages)) result
-            (stand pages.old work.old) (stand pages.new work.new) }
-        ensures edits { Edits D.Disk result (Unit {0}) work.new pages.old pages.new }
+        ensures takes { HonestAt D.honest edit.new.base.disk → TakesAtMost
+            (pages_for (4 * length (shape_of self.old).pages)) result edit.old.next edit.new.next }
+        ensures edits { Edits D.Disk result (Unit {0}) edit.old edit.new }
     {
         match self {
-            IncipitIndex::Eight(index) => store_list(alloc, pages, work, index),
-            IncipitIndex::Twelve(index) => store_list(alloc, pages, work, index),
+            IncipitIndex::Eight(index) => store_list(edit, index),
+            IncipitIndex::Twelve(index) => store_list(edit, index),
         }
     }
 
     // The numbers that stand at the keys of the incipits that begin with these steps.
     pub fn values_for<D: Disk>(
         &self,
-        alloc: Global,
-        pages: &mut Pages<D>,
-        work: &Work,
+        edit: &mut Edit<D>,
         front: &SomeSteps,
     ) -> Result<Vec<u32>, Fault>
-        requires work { IsInProgress pages.old work.now }
-        requires holds { HonestAt D.honest pages.old.disk → HoldsSomeIndex
-            (incipit_bytes (notes_of_index self.now)) (stand pages.old work.now)
-            (shape_of self.now) }
-        ensures finds { IfOk result (λ values. HonestAt D.honest pages.new.disk
+        requires holds { HonestAt D.honest edit.old.base.disk → HoldsSomeIndex
+            (incipit_bytes (notes_of_index self.now)) edit.old.next (shape_of self.now) }
+        ensures finds { IfOk result (λ values. HonestAt D.honest edit.new.base.disk
             → (before after : List Part) (parts : IndexParts) (entries : List Entry)
-            → HoldsIndexAmong (incipit_bytes (notes_of_index self.now))
-            (stand pages.old work.now) (index_with (shape_of self.now) entries) before after parts
-            → (tunes : List (ℕ × List ℕ))
+            → HoldsIndexAmong (incipit_bytes (notes_of_index self.now)) edit.old.next (index_with
+            (shape_of self.now) entries) before after parts → (tunes : List (ℕ × List ℕ))
             → HoldsEntries (incipit_keys (notes_of_index self.now)) tunes entries
-            → (tune : ℕ × List ℕ) → Contains tunes tune
-            → finds_steps (notes_of_index self.now) front.now.steps tune.1 ≡ true
-            → Contains values.items tune.0) }
-        ensures reads { Reads D.Disk result work.now pages.old pages.new }
+            → (tune : ℕ × List ℕ) → Contains tunes tune → finds_steps (notes_of_index self.now)
+            front.now.steps tune.1 ≡ true → Contains values.items tune.0) }
+        ensures consults { Consults D.Disk result edit.old edit.new }
     {
         match self {
-            IncipitIndex::Eight(index) => {
-                values_for::<D, EightNoteKeys>(alloc, pages, work, index, front)
-            }
+            IncipitIndex::Eight(index) => { values_for::<D, EightNoteKeys>(edit, index, front) }
             IncipitIndex::Twelve(index) => {
                 let (low, high) = TwelveNoteKeys::range(front);
-                index.candidates(alloc, pages, work, &low, &high)
+                index.candidates(edit, &low, &high)
             }
         }
     }

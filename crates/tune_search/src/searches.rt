@@ -54,7 +54,7 @@ impl SearchIndexes {
         self.incipits.notes()
     }
 
-    /// The same indexes again: a command changes copies, and a work that is dropped leaves the
+    /// The same indexes again: a command changes copies, and a change that is dropped leaves the
     /// indexes that they were made of.
     ///
     /// # Errors

@@ -5,6 +5,7 @@ use Rattle.tune_disk.specs.Disk.{DiskState}
 use Rattle.tune_disk.specs.Stops.{LeavesOnly, SinceThen}
 use Rattle.tune_disk.specs.declared.disk.Disk as disk
 use Rattle.tune_journal.specs.Image.{StandsFor, StandsForEither}
+use Rattle.tune_pages.specs.Edited.{stand_of}
 use Rattle.tune_pages.specs.Faults.{CountsFaultWhere}
 use Rattle.tune_pages.specs.Kept.{Kept, HonestAt, state_at, failures_at}
 use Rattle.tune_pages.specs.PageLooks.{SameKept}
@@ -21,7 +22,6 @@ use Rattle.tune_store.specs.declared.plans.Change.{Change}
 use Rattle.tune_contents.specs.Holds.{HoldsContents, LaysMemory, LaysState, Memory}
 use Rattle.tune_contents.specs.declared.contents.Contents.{Contents}
 use Rattle.tune_archive.specs.Shelf.{Shelf, state_of, StandsForOneOf}
-use Rattle.tune_archive.specs.Inside.Holding.{stand_of}
 
 -- PAGES
 -- They hold a state within the limits, and the one after the change is within them too.
@@ -68,6 +68,17 @@ pub record StaysKept {D : Type 0} (honest : D → Type 0) (state : D → DiskSta
     (old new : Kept D) : Type 0 where
   pub same : SameKept honest old new
   pub disk : HonestAt honest new.disk → state_at state new.disk ≡ state_at state old.disk
+
+-- `Device` alone closes the pages, and `Closed` never comes.
+abbrev pub IsPagesFault : Fault → Bool → Type 0
+IsPagesFault FileFull closed = closed ≡ false
+IsPagesFault OutOfMemory closed = closed ≡ false
+IsPagesFault Device closed = closed ≡ true
+IsPagesFault Closed closed = ⊥
+
+abbrev pub AnswersPages : {T : Type 0} → Result T Fault → Bool → Type 0
+AnswersPages result closed =
+    MatchResult result (λ _. closed ≡ false) (λ fault. IsPagesFault fault closed)
 
 -- THE ARCHIVE
 -- A fault of pages as a refusal. Pages of an honest disk are never too few for an archive, so full

@@ -3,18 +3,14 @@ use Rattle.std.specs.Prelude.{◌≡◌, ◌≤◌, Bool, false, length}
 use Rattle.tune_disk.specs.Disk.{DiskState}
 use Rattle.tune_disk.specs.Stops.{LeavesOnly}
 use Rattle.tune_journal.specs.Image.{StandsFor}
+use Rattle.tune_pages.specs.Edited.{stand_of}
 use Rattle.tune_pages.specs.Kept.{Kept, HonestAt, state_at}
-use Rattle.tune_pages.specs.Stand.{Stand}
 use Rattle.tune_store.specs.State.{IsState}
 use Rattle.tune_format.specs.RootOffsets.{most_pages_of}
 use Rattle.tune_contents.specs.Claimed.{AreRows}
 use Rattle.tune_contents.specs.Holds.{HoldsContents}
 use Rattle.tune_contents.specs.declared.contents.Contents.{Contents}
 use Rattle.tune_archive.specs.Shelf.{state_on}
-
--- pages, and which of them are in use, as no work changes them
-abbrev pub stand_of : {D : Type 0} → Kept D → Stand
-stand_of kept = record { pages = kept.pages; used = kept.used }
 
 -- The pages hold the state of the disk, which is within the limits; a stop now leaves them alone.
 pub record HoldsState {D : Type 0} (state : D → DiskState) (kept : Kept D) (contents : Contents)

@@ -1,8 +1,10 @@
--- How pages, and pages that are being opened, are stored: as the tuples of their fields.
+-- How pages, pages that are being opened, and edits are stored: as the tuples of their fields.
 use Rattle.std.specs.Prelude.{ℕ, List, Bool, Option, refl}
 use Rattle.std.specs.Coded.{Coded, code_by, coded×, coded_ℕ, coded_list, coded_bool, coded_option}
 use Rattle.tune_pages.specs.Claims.{Claims}
+use Rattle.tune_pages.specs.Edited.{Edited}
 use Rattle.tune_pages.specs.Kept.{Kept}
+use Rattle.tune_pages.specs.Stand.{Stand}
 
 -- codes of lists of pages, and of marks
 abbrev pages_code : Coded (List (List ℕ))
@@ -30,3 +32,14 @@ claims_code {D} code =
     code_by (D × (List (List ℕ) × List Bool)) (coded× code (coded× pages_code marks_code))
     (λ s. (s.disk, (s.pages, s.claimed)))
     (λ p. record { disk = p.0; pages = p.1.0; claimed = p.1.1 }) (λ _. refl)
+
+abbrev stand_code : Coded Stand
+stand_code =
+    code_by (List (List ℕ) × List Bool) (coded× pages_code marks_code) (λ s. (s.pages, s.used))
+    (λ p. record { pages = p.0; used = p.1 }) (λ _. refl)
+
+abbrev pub edited_code : {D : Type 0} → Coded D → Coded (Edited D)
+edited_code {D} code =
+    code_by (Kept D × (Stand × Bool)) (coded× (kept_code code) (coded× stand_code coded_bool))
+    (λ e. (e.base, (e.next, e.live)))
+    (λ p. record { base = p.0; next = p.1.0; live = p.1.1 }) (λ _. refl)

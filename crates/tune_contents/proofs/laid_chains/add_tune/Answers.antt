@@ -2,7 +2,6 @@ use Rattle.tune_pages.specs.Faults.{pages_for}
 use Rattle.tune_contents.proofs.TakesLemmas.{put_count}
 use Rattle.std.proofs.Common.{append_assoc, length, ◌+◌, arith, ◌≡◌, [], ◌∷◌, ◌++◌, ◌∙◌, ap, refl, sym, subst, List, ℕ, rules}
 use Rattle.tune_pages.specs.Stand.{PutsChain}
-use Rattle.tune_pages.specs.Work.{stand}
 use Rattle.tune_store.specs.declared.tune.Tune.{Tune}
 use Rattle.tune_format.specs.Written.{written_text, stored_tune}
 use Rattle.tune_format.specs.declared.rows.Row.{Row}
@@ -17,8 +16,8 @@ returns-clause-lays g c = λ rows.
     let bytes : c.deref.result.now ≡ stored_tune tune = c.deref.ensures.value ∙ c.in-Ok.ensures
     ∙ ap (λ (text : List ℕ). written_text 1 text) c.bytes.ensures.value in
     let pushed : c.push.new.self.items ≡ c.args.more.now.items ++ row ∷ [] = search rules in
-    let old = stand c.args.pages.now c.args.work.now in
-    let new = stand c.args.pages.now c.put_chain.new.work in
+    let old = c.args.edit.now.next in
+    let new = c.put_chain.new.self.next in
     let put = c.in_ok-first.ensures.chain in
     let held = c.args.more.now.items in
     subst (λ (left : List Row). LaysTunes old new (rows ++ held) left (λ tunes. tunes ++ tune ∷ []))
@@ -33,8 +32,8 @@ returns-clause-row g c =
 
 pub returns-clause-takes : goal.returns-clause-takes
 returns-clause-takes g c =
-    let old = stand c.args.pages.now c.args.work.now in
-    let new = stand c.args.pages.now c.put_chain.new.work in
+    let old = c.args.edit.now.next in
+    let new = c.put_chain.new.self.next in
     let put = c.in_ok-first.ensures.chain in
     let size : length c.deref.result.now ≡ length c.args.text.now + 2 = search rules in
     let taken = put_count old new c.in_ok-first.first put.0 c.deref.result.now put.1 in

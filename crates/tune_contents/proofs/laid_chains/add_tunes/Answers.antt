@@ -2,7 +2,6 @@ use Rattle.std.proofs.Common.{◌≡◌, ◌+◌, ◌++◌, ℕ, List, [], ◌�
 use Rattle.std.proofs.Math.Seq.{drop-cons}
 use Rattle.std.proofs.lemmas.List.{length-take-le, take-append-drop, take_more}
 use Rattle.std.proofs.lemmas.Result.{err_from_is_err_and}
-use Rattle.tune_pages.specs.Work.{stand}
 use Rattle.tune_store.specs.TuneSteps.{numbered}
 use Rattle.tune_contents.specs.Inside.Laying.{LaysTunes}
 use Rattle.tune_contents.specs.Inside.Takes.{text_pages}
@@ -21,14 +20,15 @@ loop-text-preserved g c =
     let more : take (at + 1) texts ≡ take at texts ++ text ∷ [] =
     take_more texts at text c.loop-text-test.true ∙ ap (λ (x : List ℕ). take at texts ++ x ∷ []) (sym c.text-item.is) in
     let count : length (take at texts) ≡ at = length-take-le at texts (omega arith) in
-    let old = stand c.args.pages.now c.args.work.now in
-    let new = stand c.args.pages.now c.add_tune.new.work in
+    let old = c.args.edit.now.next in
+    let new = c.add_tune.new.edit.next in
     record {
-      fits = call.fits;
+      base = call.alters.base ∙ kept.base;
+      live = (kept.live.0, call.alters.answer.1);
       number = omega (arith, kept.number);
       lays = λ rows. subst (λ (l : List (List ℕ)). LaysTunes old new rows (rows ++ c.add_tune.new.more.items) (λ tunes. tunes ++ numbered c.args.first l))
           (sym more)
-          (lays_more old (stand c.args.pages.now c.loop-text.work) new rows (rows ++ c.loop-text.more.items) (rows ++ c.add_tune.new.more.items)
+          (lays_more old c.loop-text.edit.next new rows (rows ++ c.loop-text.more.items) (rows ++ c.add_tune.new.more.items)
           c.args.first c.loop-text.number (take at texts) text (omega (arith, kept.number, count)) (kept.lays rows) (call.lays rows));
       takes = (let all = ap text_pages more in let sum = text_pages_more (take at texts) (text ∷ []) in omega (arith, kept.takes, call.takes, all, sum));
       rows = adds_next c.loop-text.more.items c.add_tune.new.more.items c.args.first c.loop-text.number at (at + 1) kept.number (omega arith) kept.rows

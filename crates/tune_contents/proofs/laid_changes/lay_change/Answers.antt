@@ -1,6 +1,5 @@
 use Rattle.std.proofs.Common.{rules, ◌≡◌, List, ap, refl, ◌∙◌, subst, sym, arith}
 use Rattle.std.proofs.lemmas.Result.{err_from_is_err_and}
-use Rattle.tune_pages.specs.Work.{stand}
 use Rattle.tune_search.specs.Searches.{SearchShape}
 use Rattle.tune_sets.specs.declared.set_lists.TuneSet.{TuneSet}
 use Rattle.tune_contents.specs.Inside.Indexed.{HoldsIndexed, HoldsSomeIndexed, Keeps, LaysIndexed, keeps_of}
@@ -15,42 +14,44 @@ use Rattle.tune_contents.proofs.laid_changes.lay_change.Goals as goal
 
 pub lay_indexed-requires-clause-holds : goal.lay_indexed-requires-clause-holds
 lay_indexed-requires-clause-holds g c = λ h.
-    (let s = stand c.args.pages.now c.args.work.now in
+    (let s = c.args.edit.now.next in
     let old = c.args.contents.now in
-    let same : keeps_of c.in_ok-copy_numbers.field-0 c.in_ok-copy_searches.field-0 old.rows.items ≡ keeps_in old =
-    λ i. keeps_of (c.in_ok-copy_numbers.ensures.numbers i) (c.in_ok-copy_searches.ensures.searches i) old.rows.items in
+    let same : keeps_of c.in-Ok.numbers c.in-Ok-copy_searches.searches old.rows.items ≡ keeps_in old =
+    λ i. keeps_of (c.in-Ok.ensures.numbers i) (c.in-Ok-copy_searches.ensures.searches i) old.rows.items in
     subst (λ (k : Keeps). HoldsSomeIndexed old.layout s k) (sym same) (some_indexed s old (c.requires.holds h)))
 
-pub lay_sets_where-requires-clause-chain : goal.lay_sets_where-requires-clause-chain
-lay_sets_where-requires-clause-chain g c = λ h.
-    (let s = stand c.args.pages.now c.args.work.now in
-    let mid = stand c.lay_indexed.new.pages c.lay_indexed.new.work in
-    let old = c.args.contents.now in
-    let is = keeps_of c.lay_indexed.new.indexes.numbers c.lay_indexed.new.indexes.searches (rows_after c.in_ok-rows.rows old.rows.items) in
-    let same : keeps_of c.in_ok-copy_numbers.field-0 c.in_ok-copy_searches.field-0 old.rows.items ≡ keeps_in old =
-    λ i. keeps_of (c.in_ok-copy_numbers.ensures.numbers i) (c.in_ok-copy_searches.ensures.searches i) old.rows.items in
-    let lays = subst (λ (k : Keeps). LaysIndexed old.layout s mid k is c.args.change.now) same (c.in_ok-rows.ensures.lays h) in
-    sets_there s mid old is c.args.change.now c.requires.possible lays (c.requires.holds (c.in_ok-rows.ensures.edits.looks.was_honest h)))
+pub lay_sets_where-requires : goal.lay_sets_where-requires
+lay_sets_where-requires g c = record {
+  chain = λ h.
+      (let s = c.args.edit.now.next in
+      let mid = c.lay_indexed.new.edit.next in
+      let old = c.args.contents.now in
+      let is = keeps_of c.lay_indexed.new.indexes.numbers c.lay_indexed.new.indexes.searches (rows_after c.in_ok-rows.rows old.rows.items) in
+      let same : keeps_of c.in-Ok.numbers c.in-Ok-copy_searches.searches old.rows.items ≡ keeps_in old =
+      λ i. keeps_of (c.in-Ok.ensures.numbers i) (c.in-Ok-copy_searches.ensures.searches i) old.rows.items in
+      let lays = subst (λ (k : Keeps). LaysIndexed old.layout s mid k is c.args.change.now) same (c.in_ok-rows.ensures.lays h) in
+      sets_there s mid old is c.args.change.now c.requires.possible lays (c.requires.holds (c.in_ok-rows.ensures.edits.looks.was_honest h)));
+}
 
 pub returns-clause-lays : goal.returns-clause-lays
 returns-clause-lays g c = λ h.
-    (let s = stand c.args.pages.now c.args.work.now in
-    let mid = stand c.lay_indexed.new.pages c.lay_indexed.new.work in
-    let late = stand c.lay_sets_where.new.pages c.lay_sets_where.new.work in
-    let new = stand c.lay_root.new.pages c.lay_root.new.work in
+    (let s = c.args.edit.now.next in
+    let mid = c.lay_indexed.new.edit.next in
+    let late = c.lay_sets_where.new.edit.next in
+    let new = c.lay_root.new.edit.next in
     let old = c.args.contents.now in
     let next : Next = record {
       layout = old.layout;
       rows = c.in_ok-rows.rows;
       numbers = c.lay_indexed.new.indexes.numbers;
       searches = c.lay_indexed.new.indexes.searches;
-      sets = c.in_ok-sets.sets;
+      sets = c.in-Ok-sets_after.sets;
       firsts = record { numbers = c.in_ok-rows.numbers; searches = c.in_ok-rows.searches; sets = c.in_ok-sets_first.sets_first };
     } in
     let h2 = c.in_ok-lay_root.ensures.edits.looks.was_honest h in
     let h1 = c.in_ok-sets_first.ensures.edits.looks.was_honest h2 in
-    let same : keeps_of c.in_ok-copy_numbers.field-0 c.in_ok-copy_searches.field-0 old.rows.items ≡ keeps_in old =
-    λ i. keeps_of (c.in_ok-copy_numbers.ensures.numbers i) (c.in_ok-copy_searches.ensures.searches i) old.rows.items in
+    let same : keeps_of c.in-Ok.numbers c.in-Ok-copy_searches.searches old.rows.items ≡ keeps_in old =
+    λ i. keeps_of (c.in-Ok.ensures.numbers i) (c.in-Ok-copy_searches.ensures.searches i) old.rows.items in
     let is = keeps_of next.numbers next.searches (rows_after next.rows old.rows.items) in
     let lays = subst (λ (k : Keeps). LaysIndexed old.layout s mid k is c.args.change.now) same (c.in_ok-rows.ensures.lays h1) in
     let named = rw c.changes_sets-names.ensures at c.in_ok-sets_first.ensures.lays h2 in
@@ -62,24 +63,19 @@ returns-clause-lays g c = λ h.
       searches_listed = lists.3;
     } in
     state_laid s mid late new old next c.args.change.now c.requires.possible lays named (c.in_ok-lay_root.ensures.root h) refl
-    (c.in_ok-rows.ensures.notes ∙ ap (λ (s : SearchShape). s.notes) c.in_ok-copy_searches.ensures.searches) c.in_ok-sets.ensures.sets says c.requires.stays)
+    (c.in_ok-rows.ensures.notes ∙ ap (λ (s : SearchShape). s.notes) c.in-Ok-copy_searches.ensures.searches) c.in-Ok-sets_after.ensures.sets says
+    c.requires.stays)
 
 pub returns-clause-rows : goal.returns-clause-rows
 returns-clause-rows g c = c.in_ok-rows.ensures.rows c.args.contents.now.layout c.args.contents.now.sets c.requires.possible
 
-pub returns-in_err-sets-clause-takes : goal.returns-in_err-sets-clause-takes
-returns-in_err-sets-clause-takes g c = λ h state holds within is.
-    (let p = err_from_is_err_and c.from_residual-in_err-sets.result c.from_residual-in_err-sets.ensures.1 in
-    let err = c.in_err-sets.ensures.err in
-    rw (p.1, p.2) (λ e. cc))
-
 pub returns-in_err-rows-clause-takes : goal.returns-in_err-rows-clause-takes
 returns-in_err-rows-clause-takes g c = λ h state holds within is.
-    (let p = err_from_is_err_and c.from_residual-in_err-rows.result c.from_residual-in_err-rows.ensures.1 in
-    let s = stand c.args.pages.now c.args.work.now in
+    (let p = err_from_is_err_and c.from_residual.result c.from_residual.ensures.1 in
+    let s = c.args.edit.now.next in
     let old = c.args.contents.now in
-    let same : keeps_of c.in_ok-copy_numbers.field-0 c.in_ok-copy_searches.field-0 old.rows.items ≡ keeps_in old =
-    λ i. keeps_of (c.in_ok-copy_numbers.ensures.numbers i) (c.in_ok-copy_searches.ensures.searches i) old.rows.items in
+    let same : keeps_of c.in-Ok.numbers c.in-Ok-copy_searches.searches old.rows.items ≡ keeps_in old =
+    λ i. keeps_of (c.in-Ok.ensures.numbers i) (c.in-Ok-copy_searches.ensures.searches i) old.rows.items in
     let first = c.in_err-rows.ensures.takes h state.tunes old.sets
     (subst (λ (k : Keeps). HoldsIndexed old.layout s k state.tunes) (sym same) (indexed_of s old state within holds)) c.requires.possible in
     let most = change_count s old c.args.change.now state holds c.requires.possible is c.requires.stays in
@@ -88,14 +84,14 @@ returns-in_err-rows-clause-takes g c = λ h state holds within is.
 pub returns-in_err-sets_first-clause-takes : goal.returns-in_err-sets_first-clause-takes
 returns-in_err-sets_first-clause-takes g c = λ h state holds within is.
     (let p = err_from_is_err_and c.from_residual-in_err-sets_first.result c.from_residual-in_err-sets_first.ensures.1 in
-    let s = stand c.args.pages.now c.args.work.now in
+    let s = c.args.edit.now.next in
     let old = c.args.contents.now in
     let h1 = c.in_err-sets_first.ensures.edits.looks.was_honest h in
-    let same : keeps_of c.in_ok-copy_numbers.field-0 c.in_ok-copy_searches.field-0 old.rows.items ≡ keeps_in old =
-    λ i. keeps_of (c.in_ok-copy_numbers.ensures.numbers i) (c.in_ok-copy_searches.ensures.searches i) old.rows.items in
+    let same : keeps_of c.in-Ok.numbers c.in-Ok-copy_searches.searches old.rows.items ≡ keeps_in old =
+    λ i. keeps_of (c.in-Ok.ensures.numbers i) (c.in-Ok-copy_searches.ensures.searches i) old.rows.items in
     let first = c.in_ok-rows.ensures.takes h1 state.tunes old.sets
     (subst (λ (k : Keeps). HoldsIndexed old.layout s k state.tunes) (sym same) (indexed_of s old state within holds)) c.requires.possible in
-    let sets = ap (λ (l : List TuneSet). sets_pages l) c.in_ok-sets.ensures.sets in
+    let sets = ap (λ (l : List TuneSet). sets_pages l) c.in-Ok-sets_after.ensures.sets in
     let second = c.in_err-sets_first.ensures.takes h in
     let most = change_count s old c.args.change.now state holds c.requires.possible is c.requires.stays in
     rw (p.1, p.2) (λ e. (let lt = second e in omega (arith, lt, first, sets, most))))
@@ -108,36 +104,16 @@ returns-in_err-lay_root-clause-takes g c = λ h state holds within is.
 
 pub returns-clause-takes : goal.returns-clause-takes
 returns-clause-takes g c = λ h state holds within is.
-    (let s = stand c.args.pages.now c.args.work.now in
+    (let s = c.args.edit.now.next in
     let old = c.args.contents.now in
     let h2 = c.in_ok-lay_root.ensures.edits.looks.was_honest h in
     let h1 = c.in_ok-sets_first.ensures.edits.looks.was_honest h2 in
-    let same : keeps_of c.in_ok-copy_numbers.field-0 c.in_ok-copy_searches.field-0 old.rows.items ≡ keeps_in old =
-    λ i. keeps_of (c.in_ok-copy_numbers.ensures.numbers i) (c.in_ok-copy_searches.ensures.searches i) old.rows.items in
+    let same : keeps_of c.in-Ok.numbers c.in-Ok-copy_searches.searches old.rows.items ≡ keeps_in old =
+    λ i. keeps_of (c.in-Ok.ensures.numbers i) (c.in-Ok-copy_searches.ensures.searches i) old.rows.items in
     let first = c.in_ok-rows.ensures.takes h1 state.tunes old.sets
     (subst (λ (k : Keeps). HoldsIndexed old.layout s k state.tunes) (sym same) (indexed_of s old state within holds)) c.requires.possible in
-    let sets = ap (λ (l : List TuneSet). sets_pages l) c.in_ok-sets.ensures.sets in
+    let sets = ap (λ (l : List TuneSet). sets_pages l) c.in-Ok-sets_after.ensures.sets in
     let second = c.in_ok-sets_first.ensures.takes h2 in
     let third = c.in_ok-lay_root.ensures.takes h in
     let most = change_count s old c.args.change.now state holds c.requires.possible is c.requires.stays in
     omega (arith, first, second, third, sets, most))
-
-pub returns-in_err-sets_first-clause-edits : goal.returns-in_err-sets_first-clause-edits
-returns-in_err-sets_first-clause-edits g c =
-    let p = err_from_is_err_and c.from_residual-in_err-sets_first.result c.from_residual-in_err-sets_first.ensures.1 in record {
-      looks = rw (p.1, p.2) (look_fails g.D.Disk.honest g.D.Disk.failures g.D.Disk.state _ _ c.args.pages.now c.lay_indexed.new.pages c.lay_sets_where.new.pages
-          c.in_ok-rows.ensures.edits.looks c.in_err-sets_first.ensures.edits.looks);
-      answer = search rules;
-      fits = search rules;
-    }
-
-pub returns-in_err-lay_root-clause-edits : goal.returns-in_err-lay_root-clause-edits
-returns-in_err-lay_root-clause-edits g c =
-    let p = err_from_is_err_and c.from_residual-in_err-lay_root.result c.from_residual-in_err-lay_root.ensures.1 in
-    let two = look_next g.D.Disk.honest g.D.Disk.failures g.D.Disk.state _ _ c.args.pages.now c.lay_indexed.new.pages c.lay_sets_where.new.pages
-    c.in_ok-rows.ensures.edits.looks c.in_ok-sets_first.ensures.edits.looks in record {
-      looks = rw (p.1, p.2) (look_fails g.D.Disk.honest g.D.Disk.failures g.D.Disk.state _ _ c.args.pages.now c.lay_sets_where.new.pages c.lay_root.new.pages
-          two c.in_err-lay_root.ensures.edits.looks);
-      answer = search rules;
-      fits = search rules;
-    }

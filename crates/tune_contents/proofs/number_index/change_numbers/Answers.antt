@@ -1,5 +1,4 @@
 use Rattle.std.proofs.Common.{◌≡◌, ◌≤◌, ℕ, length, subst}
-use Rattle.tune_pages.specs.Work.{stand}
 use Rattle.index_keys.specs.Entries.{inserted_all, removed_all}
 use Rattle.tune_search.specs.Searches.{key_bytes}
 use Rattle.tune_search.proofs.FewEntries.{few_among}
@@ -8,10 +7,10 @@ use Rattle.tune_contents.proofs.number_index.change_numbers.Goals as goal
 
 pub returns-clause-takes : goal.returns-clause-takes
 returns-clause-takes g c = λ h before after parts entries among.
-    (let s0 = stand c.args.pages.now c.args.work.now in
-    let s1 = stand c.take_run.new.pages c.take_run.new.work in
-    let s2 = stand c.put_run.new.pages c.put_run.new.work in
-    let s3 = stand c.store_list.new.pages c.store_list.new.work in
+    (let s0 = c.args.edit.now.next in
+    let s1 = c.take_run.new.edit.next in
+    let s2 = c.put_run.new.edit.next in
+    let s3 = c.store_list.new.edit.next in
     let taken = c.in_ok-take_run.ensures in
     let put = c.in_ok-put_run.ensures in
     let h2 = c.store_list.ensures.edits.looks.was_honest h in

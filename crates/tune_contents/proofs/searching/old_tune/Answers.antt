@@ -1,10 +1,9 @@
-use Rattle.tune_pages.specs.Work.{stand}
 use Rattle.tune_contents.proofs.OldTuneLemmas.{none_read, old_read}
 use Rattle.tune_contents.proofs.searching.old_tune.Goals as goal
 
 pub returns-in-None-clause-tune : goal.returns-in-None-clause-tune
 returns-in-None-clause-tune g c = λ h ahead tunes are holds.
-    none_read c.args.layout (stand c.args.pages.now c.args.work.now) ahead tunes c.args.rows.now.items c.args.change.now c.in-None.ensures.place are holds
+    none_read c.args.layout c.args.edit.now.next ahead tunes c.args.rows.now.items c.args.change.now c.in-None.ensures.place are holds
 
 pub returns-in-Ok-clause-tune : goal.returns-in-Ok-clause-tune
 returns-in-Ok-clause-tune g c = λ h ahead tunes are holds.

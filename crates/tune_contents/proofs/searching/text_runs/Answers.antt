@@ -7,12 +7,12 @@ runs_in-requires g c = small_numbers c.args.change.now c.args.rows.now.items c.r
 
 pub returns-clause-gone : goal.returns-clause-gone
 returns-clause-gone g c = λ h ahead tunes are holds.
-    takes_some c.args.change.now tunes c.in-Ok.old c.in_ok-gone.gone are.rises (c.in-Ok.ensures.tune h ahead tunes are holds) c.in_ok-gone.ensures.runs
+    takes_some c.args.change.now tunes c.in-Ok.old c.in-Ok-runs_out.gone are.rises (c.in-Ok.ensures.tune h ahead tunes are holds) c.in-Ok-runs_out.ensures.runs
 
 pub returns-clause-runs : goal.returns-clause-runs
 returns-clause-runs g c = λ h ahead tunes sets are holds can.
-    changes_texts c.args.change.now tunes c.in-Ok.old c.in_ok-gone.gone c.in_ok-come.come are.rises (c.in-Ok.ensures.tune h ahead tunes are holds)
-    c.in_ok-gone.ensures.runs c.in_ok-come.ensures.runs
+    changes_texts c.args.change.now tunes c.in-Ok.old c.in-Ok-runs_out.gone c.in-Ok-runs_in.come are.rises (c.in-Ok.ensures.tune h ahead tunes are holds)
+    c.in-Ok-runs_out.ensures.runs c.in-Ok-runs_in.ensures.runs
 
 pub returns-clause-come : goal.returns-clause-come
-returns-clause-come g c = some_run c.in_ok-come.come (coming c.args.change.now c.in-Ok.old) c.in_ok-come.ensures.runs
+returns-clause-come g c = some_run c.in-Ok-runs_in.come (coming c.args.change.now c.in-Ok.old) c.in-Ok-runs_in.ensures.runs

@@ -11,7 +11,7 @@ returns-in-Ok-Some-clause-text g c = λ h revision other holds.
 
 pub close-requires : goal.close-requires
 close-requires g c = λ h.
-    (let there = c.requires.there (c.in_ok-bytes.ensures.reads.looks.was_honest h) in
+    (let there = c.requires.there (c.in_ok-bytes.ensures.consults.looks.was_honest h) in
     let holds = there.2 in
     let bytes : c.deref.result.now ≡ holds.bytes =
     c.deref.ensures.value ∙ c.in_ok-bytes.ensures.bytes h holds.trail holds.bytes holds.has in

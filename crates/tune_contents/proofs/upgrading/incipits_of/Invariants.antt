@@ -1,12 +1,11 @@
+use Rattle.std.proofs.Common.{Ok}
 use Rattle.tune_pages.specs.Kept.{HonestAt}
-use Rattle.tune_pages.specs.Work.{stand, Fits}
-use Rattle.tune_pages.proofs.Looking.{Looked}
+use Rattle.tune_pages.specs.Editing.{Consults}
 use Rattle.tune_contents.specs.Inside.Upgrading.{GathersTo}
 use Rattle.tune_contents.proofs.upgrading.incipits_of.Given as goal
 
 abbrev pub invariant-loop-place : goal.invariant-loop-place
 invariant-loop-place g l = record {
-  looked : Looked g.D.Disk.honest g.D.Disk.failures g.D.Disk.state l.fn.pages l.pages;
-  fits : Fits l.pages l.work;
-  gathers : GathersTo (HonestAt g.D.Disk.honest l.pages.disk) l.layout (stand l.fn.pages l.work) l.rows.items l.place l.run;
+  consults : Consults {T = Unit {0}} g.D.Disk (Ok tt) l.fn.edit l.edit;
+  gathers : GathersTo (HonestAt g.D.Disk.honest l.edit.base.disk) l.layout l.fn.edit.next l.rows.items l.place l.run;
 }

@@ -1,7 +1,6 @@
-use Rattle.std.proofs.Common.{ℕ, ◌-◌, ◌<◌, length, sym, ◌∙◌, ap, arith, subst}
+use Rattle.std.proofs.Common.{refl, rules, ℕ, ◌-◌, ◌<◌, length, sym, ◌∙◌, ap, arith, subst}
 use Rattle.std.proofs.lemmas.List.Edits.{length-remove}
 use Rattle.tune_pages.specs.Stand.{IsUsed}
-use Rattle.tune_pages.specs.Work.{stand}
 use Rattle.tune_index.proofs.Changes.{shape_none, shape_then}
 use Rattle.tune_index.proofs.EachPage.{each_of}
 use Rattle.tune_index.proofs.Ranges.{page_in_use}
@@ -12,8 +11,9 @@ pub loop-rest-init : goal.loop-rest-init
 loop-rest-init g c = record {
   count = sym c.leaf_count-rest.ensures.count;
   heads = sym c.leaf_count-rest.ensures.heads;
-  fits = c.requires.work.fits;
-  shape = shape_none c.args.index.now (stand c.args.pages.now c.args.work.now) (λ has. has);
+  base = refl;
+  live = search rules;
+  shape = shape_none c.args.index.now c.args.edit.now.next (λ has. has);
 }
 
 pub loop-rest-preserved : goal.loop-rest-preserved
@@ -24,9 +24,9 @@ loop-rest-preserved g c =
     let was = c.loop-rest.index in
     let is = c.drop_leaf.new.index in
     let place = c.loop-rest.rest - 1 in
-    let C0 = stand c.args.pages.now c.args.work.now in
-    let C1 = stand c.args.pages.now c.loop-rest.work in
-    let C2 = stand c.args.pages.now c.drop_leaf.new.work in
+    let C0 = c.args.edit.now.next in
+    let C1 = c.loop-rest.edit.next in
+    let C2 = c.drop_leaf.new.edit.next in
     let pages = ap length e.gone.0 in
     let heads = ap length e.gone.1 in
     let page_less = length-remove was.pages place (omega (arith, i.count, more)) in
@@ -34,7 +34,8 @@ loop-rest-preserved g c =
     record {
       count = omega (arith, pages, page_less, i.count, more);
       heads = omega (arith, heads, head_less, i.heads, more);
-      fits = e.work.fits;
+      base = e.alters.base ∙ i.base;
+      live = e.alters.answer.1;
       shape = shape_then c.args.index.now was is C0 C1 C2 (λ has. has) i.shape.pages i.shape e.shape;
     }
 
@@ -42,7 +43,7 @@ pub returns-then-page-eq0-clause-all : goal.returns-then-page-eq0-clause-all
 returns-then-page-eq0-clause-all g c = λ has.
     let i = c.loop-rest.invariant in
     let more : 0 < c.loop-rest.rest = (let test = c.loop-rest-test.true in omega (arith, test)) in
-    let all = stand c.args.pages.now c.loop-rest.work in
+    let all = c.loop-rest.edit.next in
     let pages = c.loop-rest.index.pages in
     let place = c.loop-rest.rest - 1 in
     let e = c.leaf_page-page.ensures.page in
@@ -50,5 +51,5 @@ returns-then-page-eq0-clause-all g c = λ has.
     let used : IsUsed all.used c.leaf_page-page.result = subst (λ (x : ℕ). IsUsed all.used x) (sym e) its.flag in
     elim c.then-page-eq0.branch [
       | then-page-eq0-via-then-page-eq0 w ↦ absurd (its.not_root (sym e ∙ w.if-page-eq0.true))
-      | then-page-eq0-via-else-page-eq0+then-not-in_use w ↦ let yes = w.in_use.ensures.1 used in let no = w.if-not-in_use.true in cc
+      | then-page-eq0-via-else-page-eq0+then-not-in_use w ↦ let yes = w.in_use.ensures.1 (i.live, used) in let no = w.if-not-in_use.true in cc
     ]

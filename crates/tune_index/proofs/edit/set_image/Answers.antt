@@ -1,7 +1,6 @@
 use Rattle.std.proofs.Common.{rules, ℕ, ◌+◌, Bool, List, length, slice_index, sym, ap, subst, ◌∙◌}
 use Rattle.tune_pages.specs.Faults.{free_pages}
 use Rattle.tune_pages.specs.Frame.{image_at, TradesPages}
-use Rattle.tune_pages.specs.Work.{stand}
 use Rattle.tune_index.specs.Indexes.{HasPages}
 use Rattle.tune_index.specs.Leaves.{leaf_in}
 use Rattle.tune_index.proofs.EachPage.{each_of, all_of}
@@ -11,8 +10,8 @@ use Rattle.tune_index.proofs.edit.set_image.Goals as goal
 
 pub returns-clause-shape : goal.returns-clause-shape
 returns-clause-shape g c =
-    let old = stand c.args.pages.now c.args.work.now in
-    let new = stand c.args.pages.now c.replace_leaf.new.work in
+    let old = c.args.edit.now.next in
+    let new = c.replace_leaf.new.edit.next in
     let ps = c.args.index.now.pages in
     let p = slice_index ps c.args.place in
     let e = c.in_ok-replace_leaf.ensures in
@@ -29,8 +28,8 @@ returns-clause-shape g c =
 
 pub returns-clause-leaves : goal.returns-clause-leaves
 returns-clause-leaves g c = λ has leaves h.
-    let old = stand c.args.pages.now c.args.work.now in
-    let new = stand c.args.pages.now c.replace_leaf.new.work in
+    let old = c.args.edit.now.next in
+    let new = c.replace_leaf.new.edit.next in
     let p = slice_index c.args.index.now.pages c.args.place in
     let e = c.in_ok-replace_leaf.ensures in
     leaves_set g.row.W old new c.args.index.now c.replace_leaf.new.index leaves c.args.place (leaf_in g.row.W c.args.image.now.bytes) (image_at new p)

@@ -1,6 +1,5 @@
 use Rattle.std.proofs.Common.{◌+◌, ◌++◌, List, take, drop, arith, ap, ◌∙◌}
 use Rattle.std.specs.Prelude.{slice_set}
-use Rattle.tune_pages.specs.Work.{stand}
 use Rattle.index_keys.specs.Entries.{Entry}
 use Rattle.tune_index.specs.Inside.LeafLists.{joined_leaves}
 use Rattle.tune_index.specs.Leaves.{leaf_in}
@@ -11,7 +10,7 @@ pub returns-in-Ok-clause-leaves : goal.returns-in-Ok-clause-leaves
 returns-in-Ok-clause-leaves g c = λ has up leaves h.
     let leaf = leaf_in g.row.W c.insert_alone.new.image.bytes in
     let made = c.insert_alone.ensures.entries c.if-insert_alone.true up in
-    let n = length-leaves g.row.W (stand c.args.pages.now c.args.work.now) c.args.index.now leaves h in (
+    let n = length-leaves g.row.W c.args.edit.now.next c.args.index.now leaves h in (
       slice_set leaves c.args.place leaf,
       c.in-Ok.ensures.leaves has leaves h,
       joined_set leaves c.args.place leaf (omega (arith, n, c.requires.place))

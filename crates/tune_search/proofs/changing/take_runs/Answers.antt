@@ -1,6 +1,5 @@
 use Rattle.std.proofs.Common.{◌≡◌, ◌+◌, List, rules, sym, ap, subst, ◌∙◌}
 use Rattle.tune_pages.specs.Faults.{free_pages}
-use Rattle.tune_pages.specs.Work.{stand}
 use Rattle.index_keys.specs.Entries.{Entry, removed_all}
 use Rattle.tune_search.specs.IncipitForms.{entries_of_incipits, notes_of_entries, notes_of_index, shape_of}
 use Rattle.tune_search.specs.Inside.Four.{HoldsSomeFour, LaysFour, taken_out}
@@ -12,8 +11,8 @@ use Rattle.tune_search.proofs.changing.take_runs.Goals as goal
 
 pub take_run-requires-2 : goal.take_run-requires-2
 take_run-requires-2 g c =
-    let s0 = stand c.args.pages.now c.args.work.now in
-    let s1 = stand c.take_run.new.pages c.take_run.new.work in
+    let s0 = c.args.edit.now.next in
+    let s1 = c.take_run.new.edit.next in
     let e1 = c.in-Ok.ensures in
     let was : SearchShape = record {
       notes = notes_of_index c.indexes.inside.incipits;
@@ -27,18 +26,15 @@ take_run-requires-2 g c =
       search rules,
       (
         search rules,
-        (
-          record { is_open = e1.edits.answer; fits = e1.edits.fits },
-          (λ h1. rhythms_next was is1 is1 is1 f1 f1 f1 s0 s1 (e1.lays h1)
-              (subst (λ (shape : SearchShape). HoldsSomeFour s0 shape) (sym c.indexes.view_is) (c.requires.holds (e1.edits.looks.was_honest h1)))),
-        ),
+        (λ h1. rhythms_next was is1 is1 is1 f1 f1 f1 s0 s1 (e1.lays h1)
+            (subst (λ (shape : SearchShape). HoldsSomeFour s0 shape) (sym c.indexes.view_is) (c.requires.holds (e1.edits.looks.was_honest h1)))),
       ),
     )
 
 pub take_run-requires-3 : goal.take_run-requires-3
 take_run-requires-3 g c =
-    let s0 = stand c.args.pages.now c.args.work.now in
-    let s1 = stand c.take_run.new.pages c.take_run.new.work in
+    let s0 = c.args.edit.now.next in
+    let s1 = c.take_run.new.edit.next in
     let e1 = c.in-Ok.ensures in
     let was : SearchShape = record {
       notes = notes_of_index c.indexes.inside.incipits;
@@ -49,25 +45,22 @@ take_run-requires-3 g c =
     } in
     let is1 = c.take_run.new.index in
     let f1 = λ (es : List Entry). removed_all c.deref.result.now es in
-    let s2 = stand c.take_run-2.new.pages c.take_run-2.new.work in
+    let s2 = c.take_run-2.new.edit.next in
     let e2 = c.in-Ok-take_run.ensures in
     let is2 = c.take_run-2.new.index in
     let f2 = λ (es : List Entry). removed_all c.deref-2.result.now es in (
       search rules,
       (
         search rules,
-        (
-          record { is_open = e2.edits.answer; fits = e2.edits.fits },
-          (λ h2. (let h1 = e2.edits.looks.was_honest h2 in scales_next was is1 is2 is2 f1 f2 f2 s0 s1 s2 (e1.lays h1) (e2.lays h2)
-              (subst (λ (shape : SearchShape). HoldsSomeFour s0 shape) (sym c.indexes.view_is) (c.requires.holds (e1.edits.looks.was_honest h1))))),
-        ),
+        (λ h2. (let h1 = e2.edits.looks.was_honest h2 in scales_next was is1 is2 is2 f1 f2 f2 s0 s1 s2 (e1.lays h1) (e2.lays h2)
+            (subst (λ (shape : SearchShape). HoldsSomeFour s0 shape) (sym c.indexes.view_is) (c.requires.holds (e1.edits.looks.was_honest h1))))),
       ),
     )
 
 pub take-requires : goal.take-requires
 take-requires g c =
-    let s0 = stand c.args.pages.now c.args.work.now in
-    let s1 = stand c.take_run.new.pages c.take_run.new.work in
+    let s0 = c.args.edit.now.next in
+    let s1 = c.take_run.new.edit.next in
     let e1 = c.in-Ok.ensures in
     let was : SearchShape = record {
       notes = notes_of_index c.indexes.inside.incipits;
@@ -78,17 +71,16 @@ take-requires g c =
     } in
     let is1 = c.take_run.new.index in
     let f1 = λ (es : List Entry). removed_all c.deref.result.now es in
-    let s2 = stand c.take_run-2.new.pages c.take_run-2.new.work in
+    let s2 = c.take_run-2.new.edit.next in
     let e2 = c.in-Ok-take_run.ensures in
     let is2 = c.take_run-2.new.index in
     let f2 = λ (es : List Entry). removed_all c.deref-2.result.now es in
-    let s3 = stand c.take_run-3.new.pages c.take_run-3.new.work in
+    let s3 = c.take_run-3.new.edit.next in
     let e3 = c.in-Ok-take_run-2.ensures in
     let is3 = c.take_run-3.new.index in
     let f3 = λ (es : List Entry). removed_all c.deref-3.result.now es in
     let same = ap (λ (r : SearchRuns). r.notes) c.runs.view_is ∙ c.requires.notes
     ∙ sym (ap (λ (shape : SearchShape). shape.notes) c.indexes.view_is) in record {
-      work = record { is_open = e3.edits.answer; fits = e3.edits.fits };
       notes = same;
       index = λ h3. (let h2 = e3.edits.looks.was_honest h3 in let h1 = e2.edits.looks.was_honest h2 in
           incipits_next was is1 is2 is3 f1 f2 f3 s0 s1 s2 s3 (e1.lays h1) (e2.lays h2) (e3.lays h3)
@@ -97,8 +89,8 @@ take-requires g c =
 
 pub returns-clause-lays : goal.returns-clause-lays
 returns-clause-lays g c = λ h4.
-    let s0 = stand c.args.pages.now c.args.work.now in
-    let s1 = stand c.take_run.new.pages c.take_run.new.work in
+    let s0 = c.args.edit.now.next in
+    let s1 = c.take_run.new.edit.next in
     let e1 = c.in-Ok.ensures in
     let was : SearchShape = record {
       notes = notes_of_index c.indexes.inside.incipits;
@@ -109,15 +101,15 @@ returns-clause-lays g c = λ h4.
     } in
     let is1 = c.take_run.new.index in
     let f1 = λ (es : List Entry). removed_all c.deref.result.now es in
-    let s2 = stand c.take_run-2.new.pages c.take_run-2.new.work in
+    let s2 = c.take_run-2.new.edit.next in
     let e2 = c.in-Ok-take_run.ensures in
     let is2 = c.take_run-2.new.index in
     let f2 = λ (es : List Entry). removed_all c.deref-2.result.now es in
-    let s3 = stand c.take_run-3.new.pages c.take_run-3.new.work in
+    let s3 = c.take_run-3.new.edit.next in
     let e3 = c.in-Ok-take_run-2.ensures in
     let is3 = c.take_run-3.new.index in
     let f3 = λ (es : List Entry). removed_all c.deref-3.result.now es in
-    let s4 = stand c.take.new.pages c.take.new.work in
+    let s4 = c.take.new.edit.next in
     let e4 = c.in-Ok-take.ensures in
     let is4 = c.take.new.self in
     let f4 = λ (es : List Entry). removed_all (entries_of_incipits c.runs.inside.incipits) es in
@@ -145,11 +137,11 @@ returns-clause-lays g c = λ h4.
 
 pub returns-clause-balance : goal.returns-clause-balance
 returns-clause-balance g c =
-    let s0 = stand c.args.pages.now c.args.work.now in
-    let s1 = stand c.take_run.new.pages c.take_run.new.work in
-    let s2 = stand c.take_run-2.new.pages c.take_run-2.new.work in
-    let s3 = stand c.take_run-3.new.pages c.take_run-3.new.work in
-    let s4 = stand c.take.new.pages c.take.new.work in
+    let s0 = c.args.edit.now.next in
+    let s1 = c.take_run.new.edit.next in
+    let s2 = c.take_run-2.new.edit.next in
+    let s3 = c.take_run-3.new.edit.next in
+    let s4 = c.take.new.edit.next in
     let was : SearchShape = record {
       notes = notes_of_index c.indexes.inside.incipits;
       titles = c.indexes.inside.titles;

@@ -1,6 +1,5 @@
 use Rattle.std.proofs.Common.{◌≡◌, ℕ, List, Contains, sym, ap, ◌∙◌, subst, arith}
 use Rattle.std.proofs.lemmas.Result.{IfOk-weaker}
-use Rattle.tune_pages.specs.Work.{stand}
 use Rattle.index_keys.specs.Entries.{Entry, values_within}
 use Rattle.index_keys.specs.KeyLists.{HasKeyWithin}
 use Rattle.index_keys.proofs.Holding.{holds_within}
@@ -11,17 +10,14 @@ use Rattle.tune_search.proofs.finding.values_for.Goals as goal
 
 pub candidates-requires : goal.candidates-requires
 candidates-requires g c =
-    let s = stand c.args.pages.now c.args.work.now in
+    let s = c.args.edit.now.next in
     let shape = c.args.index.now in (
       omega arith,
       (
         omega arith,
         (
-          c.requires.work,
-          (
-            (λ h. let some = c.requires.holds h in among_pages key_bytes s shape some.0 some.1 some.2 some.3 some.4),
-            (λ h. let some = c.requires.holds h in among_index key_bytes s shape some.0 some.1 some.2 some.3 some.4),
-          ),
+          (λ h. let some = c.requires.holds h in among_pages key_bytes s shape some.0 some.1 some.2 some.3 some.4),
+          (λ h. let some = c.requires.holds h in among_index key_bytes s shape some.0 some.1 some.2 some.3 some.4),
         ),
       ),
     )
@@ -31,7 +27,7 @@ pub returns-clause-finds : goal.returns-clause-finds
 returns-clause-finds g c = IfOk-weaker c.candidates.result _ _
     (λ values are h before after parts entries among tunes held tune there found.
     let kind = g.K.Keyed in
-    let s = stand c.args.pages.now c.args.work.now in
+    let s = c.args.edit.now.next in
     let all : List Entry = entries_of key_bytes s c.args.index.now.pages in
     let low = kind.low_of c.args.query.now in
     let high = kind.high_of c.args.query.now in

@@ -1,6 +1,5 @@
 use Rattle.std.proofs.Common.{◌≡◌, ◌+◌, ◌<◌, ◌≤◌, rules, sym, subst}
 use Rattle.tune_pages.specs.Faults.{free_pages}
-use Rattle.tune_pages.specs.Work.{stand}
 use Rattle.tune_pages.specs.declared.fault.Fault.TheVariants.{FileFull}
 use Rattle.tune_search.specs.IncipitForms.{notes_of_index, shape_of}
 use Rattle.tune_search.specs.Inside.Four.{HoldsSomeFour, LaysFour}
@@ -12,7 +11,7 @@ use Rattle.tune_search.proofs.storing.store_lists.Goals as goal
 
 pub store_list-requires-2 : goal.store_list-requires-2
 store_list-requires-2 g c =
-    let s0 = stand c.args.pages.now c.args.work.now in
+    let s0 = c.args.edit.now.next in
     let was : SearchShape = record {
       notes = notes_of_index c.indexes.inside.incipits;
       titles = c.indexes.inside.titles;
@@ -20,21 +19,18 @@ store_list-requires-2 g c =
       scales = c.indexes.inside.scales;
       incipits = shape_of c.indexes.inside.incipits;
     } in
-    let s1 = stand c.store_list.new.pages c.store_list.new.work in
+    let s1 = c.store_list.new.edit.next in
     let e1 = c.in-Ok.ensures in
     let is1 = c.store_list.new.index in (
       search rules,
-      (
-        record { is_open = e1.edits.answer; fits = e1.edits.fits },
-        (λ h1.
-            rhythms_next was is1 is1 is1 same_entries same_entries same_entries s0 s1 (e1.lays h1)
-            (subst (λ (shape : SearchShape). HoldsSomeFour s0 shape) (sym c.indexes.view_is) (c.requires.holds (e1.edits.looks.was_honest h1)))),
-      ),
+      (λ h1.
+          rhythms_next was is1 is1 is1 same_entries same_entries same_entries s0 s1 (e1.lays h1)
+          (subst (λ (shape : SearchShape). HoldsSomeFour s0 shape) (sym c.indexes.view_is) (c.requires.holds (e1.edits.looks.was_honest h1)))),
     )
 
 pub store_list-requires-3 : goal.store_list-requires-3
 store_list-requires-3 g c =
-    let s0 = stand c.args.pages.now c.args.work.now in
+    let s0 = c.args.edit.now.next in
     let was : SearchShape = record {
       notes = notes_of_index c.indexes.inside.incipits;
       titles = c.indexes.inside.titles;
@@ -42,25 +38,22 @@ store_list-requires-3 g c =
       scales = c.indexes.inside.scales;
       incipits = shape_of c.indexes.inside.incipits;
     } in
-    let s1 = stand c.store_list.new.pages c.store_list.new.work in
+    let s1 = c.store_list.new.edit.next in
     let e1 = c.in-Ok.ensures in
     let is1 = c.store_list.new.index in
-    let s2 = stand c.store_list-2.new.pages c.store_list-2.new.work in
+    let s2 = c.store_list-2.new.edit.next in
     let e2 = c.in-Ok-store_list.ensures in
     let is2 = c.store_list-2.new.index in (
       search rules,
-      (
-        record { is_open = e2.edits.answer; fits = e2.edits.fits },
-        (λ h2.
-            let h1 = e2.edits.looks.was_honest h2 in
-            scales_next was is1 is2 is2 same_entries same_entries same_entries s0 s1 s2 (e1.lays h1) (e2.lays h2)
-            (subst (λ (shape : SearchShape). HoldsSomeFour s0 shape) (sym c.indexes.view_is) (c.requires.holds (e1.edits.looks.was_honest h1)))),
-      ),
+      (λ h2.
+          let h1 = e2.edits.looks.was_honest h2 in
+          scales_next was is1 is2 is2 same_entries same_entries same_entries s0 s1 s2 (e1.lays h1) (e2.lays h2)
+          (subst (λ (shape : SearchShape). HoldsSomeFour s0 shape) (sym c.indexes.view_is) (c.requires.holds (e1.edits.looks.was_honest h1)))),
     )
 
 pub store-requires : goal.store-requires
 store-requires g c =
-    let s0 = stand c.args.pages.now c.args.work.now in
+    let s0 = c.args.edit.now.next in
     let was : SearchShape = record {
       notes = notes_of_index c.indexes.inside.incipits;
       titles = c.indexes.inside.titles;
@@ -68,16 +61,15 @@ store-requires g c =
       scales = c.indexes.inside.scales;
       incipits = shape_of c.indexes.inside.incipits;
     } in
-    let s1 = stand c.store_list.new.pages c.store_list.new.work in
+    let s1 = c.store_list.new.edit.next in
     let e1 = c.in-Ok.ensures in
     let is1 = c.store_list.new.index in
-    let s2 = stand c.store_list-2.new.pages c.store_list-2.new.work in
+    let s2 = c.store_list-2.new.edit.next in
     let e2 = c.in-Ok-store_list.ensures in
     let is2 = c.store_list-2.new.index in
-    let s3 = stand c.store_list-3.new.pages c.store_list-3.new.work in
+    let s3 = c.store_list-3.new.edit.next in
     let e3 = c.in-Ok-store_list-2.ensures in
     let is3 = c.store_list-3.new.index in record {
-      work = record { is_open = e3.edits.answer; fits = e3.edits.fits };
       index = λ h3.
           let h2 = e3.edits.looks.was_honest h3 in
           let h1 = e2.edits.looks.was_honest h2 in
@@ -87,7 +79,7 @@ store-requires g c =
 
 pub returns-clause-lays : goal.returns-clause-lays
 returns-clause-lays g c = λ h4.
-    let s0 = stand c.args.pages.now c.args.work.now in
+    let s0 = c.args.edit.now.next in
     let was : SearchShape = record {
       notes = notes_of_index c.indexes.inside.incipits;
       titles = c.indexes.inside.titles;
@@ -95,16 +87,16 @@ returns-clause-lays g c = λ h4.
       scales = c.indexes.inside.scales;
       incipits = shape_of c.indexes.inside.incipits;
     } in
-    let s1 = stand c.store_list.new.pages c.store_list.new.work in
+    let s1 = c.store_list.new.edit.next in
     let e1 = c.in-Ok.ensures in
     let is1 = c.store_list.new.index in
-    let s2 = stand c.store_list-2.new.pages c.store_list-2.new.work in
+    let s2 = c.store_list-2.new.edit.next in
     let e2 = c.in-Ok-store_list.ensures in
     let is2 = c.store_list-2.new.index in
-    let s3 = stand c.store_list-3.new.pages c.store_list-3.new.work in
+    let s3 = c.store_list-3.new.edit.next in
     let e3 = c.in-Ok-store_list-2.ensures in
     let is3 = c.store_list-3.new.index in
-    let s4 = stand c.store.new.pages c.store.new.work in
+    let s4 = c.store.new.edit.next in
     let e4 = c.in-Ok-store.ensures in
     let is4 = c.store.new.self in
     let h3 = e4.edits.looks.was_honest h4 in
@@ -117,7 +109,7 @@ returns-clause-lays g c = λ h4.
 
 pub returns-clause-takes : goal.returns-clause-takes
 returns-clause-takes g c = λ h4.
-    let s0 = stand c.args.pages.now c.args.work.now in
+    let s0 = c.args.edit.now.next in
     let was : SearchShape = record {
       notes = notes_of_index c.indexes.inside.incipits;
       titles = c.indexes.inside.titles;
@@ -125,13 +117,13 @@ returns-clause-takes g c = λ h4.
       scales = c.indexes.inside.scales;
       incipits = shape_of c.indexes.inside.incipits;
     } in
-    let s1 = stand c.store_list.new.pages c.store_list.new.work in
+    let s1 = c.store_list.new.edit.next in
     let e1 = c.in-Ok.ensures in
-    let s2 = stand c.store_list-2.new.pages c.store_list-2.new.work in
+    let s2 = c.store_list-2.new.edit.next in
     let e2 = c.in-Ok-store_list.ensures in
-    let s3 = stand c.store_list-3.new.pages c.store_list-3.new.work in
+    let s3 = c.store_list-3.new.edit.next in
     let e3 = c.in-Ok-store_list-2.ensures in
-    let s4 = stand c.store.new.pages c.store.new.work in
+    let s4 = c.store.new.edit.next in
     let e4 = c.in-Ok-store.ensures in
     let h3 = e4.edits.looks.was_honest h4 in
     let h2 = e3.edits.looks.was_honest h3 in
@@ -142,7 +134,7 @@ returns-clause-takes g c = λ h4.
 
 pub returns-in-Err-clause-takes : goal.returns-in-Err-clause-takes
 returns-in-Err-clause-takes g c = λ h1.
-    let s0 = stand c.args.pages.now c.args.work.now in
+    let s0 = c.args.edit.now.next in
     let was : SearchShape = record {
       notes = notes_of_index c.indexes.inside.incipits;
       titles = c.indexes.inside.titles;
@@ -156,7 +148,7 @@ returns-in-Err-clause-takes g c = λ h1.
 
 pub returns-in-Err-store_list-clause-takes : goal.returns-in-Err-store_list-clause-takes
 returns-in-Err-store_list-clause-takes g c = λ h2.
-    let s0 = stand c.args.pages.now c.args.work.now in
+    let s0 = c.args.edit.now.next in
     let was : SearchShape = record {
       notes = notes_of_index c.indexes.inside.incipits;
       titles = c.indexes.inside.titles;
@@ -164,7 +156,7 @@ returns-in-Err-store_list-clause-takes g c = λ h2.
       scales = c.indexes.inside.scales;
       incipits = shape_of c.indexes.inside.incipits;
     } in
-    let s1 = stand c.store_list.new.pages c.store_list.new.work in
+    let s1 = c.store_list.new.edit.next in
     let e1 = c.in-Ok.ensures in
     let h1 = c.in-Err-store_list.ensures.edits.looks.was_honest h2 in
     let fault = c.in-Err-store_list.fault in
@@ -173,7 +165,7 @@ returns-in-Err-store_list-clause-takes g c = λ h2.
 
 pub returns-in-Err-store_list-2-clause-takes : goal.returns-in-Err-store_list-2-clause-takes
 returns-in-Err-store_list-2-clause-takes g c = λ h3.
-    let s0 = stand c.args.pages.now c.args.work.now in
+    let s0 = c.args.edit.now.next in
     let was : SearchShape = record {
       notes = notes_of_index c.indexes.inside.incipits;
       titles = c.indexes.inside.titles;
@@ -181,9 +173,9 @@ returns-in-Err-store_list-2-clause-takes g c = λ h3.
       scales = c.indexes.inside.scales;
       incipits = shape_of c.indexes.inside.incipits;
     } in
-    let s1 = stand c.store_list.new.pages c.store_list.new.work in
+    let s1 = c.store_list.new.edit.next in
     let e1 = c.in-Ok.ensures in
-    let s2 = stand c.store_list-2.new.pages c.store_list-2.new.work in
+    let s2 = c.store_list-2.new.edit.next in
     let e2 = c.in-Ok-store_list.ensures in
     let h2 = c.in-Err-store_list-2.ensures.edits.looks.was_honest h3 in
     let h1 = e2.edits.looks.was_honest h2 in
@@ -193,7 +185,7 @@ returns-in-Err-store_list-2-clause-takes g c = λ h3.
 
 pub returns-in-Err-store-clause-takes : goal.returns-in-Err-store-clause-takes
 returns-in-Err-store-clause-takes g c = λ h4.
-    let s0 = stand c.args.pages.now c.args.work.now in
+    let s0 = c.args.edit.now.next in
     let was : SearchShape = record {
       notes = notes_of_index c.indexes.inside.incipits;
       titles = c.indexes.inside.titles;
@@ -201,11 +193,11 @@ returns-in-Err-store-clause-takes g c = λ h4.
       scales = c.indexes.inside.scales;
       incipits = shape_of c.indexes.inside.incipits;
     } in
-    let s1 = stand c.store_list.new.pages c.store_list.new.work in
+    let s1 = c.store_list.new.edit.next in
     let e1 = c.in-Ok.ensures in
-    let s2 = stand c.store_list-2.new.pages c.store_list-2.new.work in
+    let s2 = c.store_list-2.new.edit.next in
     let e2 = c.in-Ok-store_list.ensures in
-    let s3 = stand c.store_list-3.new.pages c.store_list-3.new.work in
+    let s3 = c.store_list-3.new.edit.next in
     let e3 = c.in-Ok-store_list-2.ensures in
     let h3 = c.in-Err-store.ensures.edits.looks.was_honest h4 in
     let h2 = e3.edits.looks.was_honest h3 in

@@ -4,14 +4,14 @@ use Rattle.tune_format.specs.declared.rows.Row.{Row}
 use Rattle.tune_contents.specs.Holds.{labels_in}
 use Rattle.tune_archive.specs.Shelf.{Shelf, state_on}
 use Rattle.tune_archive.specs.Inside.Fetching.{HasFetched, Fetches}
-use Rattle.tune_archive.specs.Inside.Holding.{stand_of}
+use Rattle.tune_pages.specs.Edited.{stand_of}
 use Rattle.tune_archive.specs.declared.archive.Fetched.{Fetched}
 use Rattle.tune_archive.proofs.FetchLemmas.{place_inside, some_text, shelf_kept, fetches}
 use Rattle.tune_archive.proofs.archive_catalog.ArchiveCatalog.fetch.Goals as goal
 
 pub read_text-requires-clause-there : goal.read_text-requires-clause-there
 read_text-requires-clause-there g c = λ h.
-    (let pages = c.self.inside.pages in
+    (let pages = c.self.inside.edit.base in
     let contents = c.self.inside.contents in
     let held = c.self.invariant.holds h c.if-self.false in
     let labelled : c.args.place < length (labels_in contents.rows.items) =
@@ -21,25 +21,25 @@ read_text-requires-clause-there g c = λ h.
 
 pub invariant_of-self : goal.invariant_of-self
 invariant_of-self g c =
-    shelf_kept g.D.Disk.honest g.D.Disk.failures g.D.Disk.state (Ok c.in-Ok.text) c.self.inside.pages c.read_text.new.pages c.self.inside.contents
+    shelf_kept g.D.Disk.honest g.D.Disk.failures g.D.Disk.state (Ok c.in-Ok.text) c.self.inside.edit.base c.read_text.new.edit.base c.self.inside.contents
     c.self.inside.closed c.self.invariant c.in-Ok.ensures.looks c.in-Ok.ensures.looks.same
 
 pub invariant_of-self-in-Err-OutOfMemory : goal.invariant_of-self-in-Err-OutOfMemory
 invariant_of-self-in-Err-OutOfMemory g c =
     let looks = c.in-Err-OutOfMemory.ensures.looks in
     let is = c.in-Err-OutOfMemory.field-0-is in
-    shelf_kept g.D.Disk.honest g.D.Disk.failures g.D.Disk.state (Err c.in-Err-OutOfMemory.field-0) c.self.inside.pages c.read_text.new.pages
+    shelf_kept g.D.Disk.honest g.D.Disk.failures g.D.Disk.state (Err c.in-Err-OutOfMemory.field-0) c.self.inside.edit.base c.read_text.new.edit.base
     c.self.inside.contents c.self.inside.closed c.self.invariant looks (looks.same (λ e. (let no : ⊥ = cc in no)))
 
 pub returns-in-Ok : goal.returns-in-Ok
 returns-in-Ok g c =
-    let pages = c.self.inside.pages in
+    let pages = c.self.inside.edit.base in
     let contents = c.self.inside.contents in
     let last : Fetched = record { place = c.args.place; text = c.in-Ok.text } in
     let old : Shelf g.row.D.Denot =
     record { pages = pages; contents = contents; fetched = c.self.inside.fetched; closed = c.self.inside.closed } in
     let new : Shelf g.row.D.Denot =
-    record { pages = c.read_text.new.pages; contents = contents; fetched = Some last; closed = c.self.inside.closed } in
+    record { pages = c.read_text.new.edit.base; contents = contents; fetched = Some last; closed = c.self.inside.closed } in
     let labelled : c.args.place < length (labels_in contents.rows.items) =
     subst (λ (s : Shelf g.row.D.Denot). c.args.place < length (labels_in s.contents.rows.items)) (sym c.self.view_is) c.requires in
     subst

@@ -1,19 +1,17 @@
-use Rattle.std.proofs.Common.{◌≡◌, ℕ, ◌+◌, ◌-◌, ◌++◌, List, [], ◌∷◌, length, take, drop, rules, arith, sym, ap, ◌∙◌, subst}
+use Rattle.std.proofs.Common.{◌≡◌, ℕ, ◌+◌, ◌-◌, ◌++◌, List, [], ◌∷◌, length, take, drop, rules, Ok, Err, arith, sym, ap, ◌∙◌, subst}
 use Rattle.std.proofs.Math.Seq.{take-add}
 use Rattle.std.proofs.lemmas.List.{take-append-drop}
 use Rattle.tune_pages.specs.Stand.{Stand}
-use Rattle.tune_pages.specs.Work.{stand}
-use Rattle.tune_pages.proofs.Looking.{looked_more}
+use Rattle.tune_pages.proofs.Edits.{alters_edits, alters_failed, alters_fuller, edits_failed, edits_fuller, edits_next, edits_none, went}
 use Rattle.index_keys.specs.Entries.{Entry, IsRising, inserted_all}
 use Rattle.index_keys.proofs.RisingEntries.{rises_back}
 use Rattle.tune_index.specs.Indexes.{entries_of}
-use Rattle.tune_index.proofs.Answering.{change_edit, edit_more}
 use Rattle.tune_index.proofs.Changes.{shape_none, shape_then}
 use Rattle.tune_index.proofs.Runs.{inserted_all-append, inserted_in_none}
 use Rattle.tune_index.proofs.index.Index.insert_all.Goals as goal
 
 pub returns-then-is_empty-clause-shape : goal.returns-then-is_empty-clause-shape
-returns-then-is_empty-clause-shape g c = shape_none c.args.self.now (stand c.args.pages.now c.args.work.now) c.requires.pages
+returns-then-is_empty-clause-shape g c = shape_none c.args.self.now c.args.edit.now.next c.requires.pages
 
 -- a run goes whole into an index without leaves
 none_first : (width : ℕ) (all : Stand) (pages : List ℕ) (run : List Entry) → length pages ≡ 0 → IsRising run
@@ -22,14 +20,11 @@ none_first width all [] run none up = ap length (inserted_in_none run up)
 none_first width all (p ∷ ps) run none up = absurd (omega arith)
 
 pub returns-in-Err-clause-edits : goal.returns-in-Err-clause-edits
-returns-in-Err-clause-edits g c = record {
-  looks = search rules;
-  answer = change_edit c.in-Err.fault c.requires.work.is_open
-      (λ full honest. (let all = none_first g.row.W (stand c.args.pages.now c.args.work.now) c.args.self.now.pages c.args.run.now full.0 c.requires.rising in
-      omega (arith, full.0, full.1, all)))
-      c.in-Err.ensures.work.answer;
-  fits = tt;
-}
+returns-in-Err-clause-edits g c = alters_edits g.D.Disk (Err c.in-Err.fault) _ _ _ (alters_failed c.in-Err.fault _ _ _ (alters_fuller
+    (Err c.in-Err.fault) _ _ _ _
+    (λ full honest. (let all = none_first g.row.W c.args.edit.now.next c.args.self.now.pages c.args.run.now full.0 c.requires.rising in
+    omega (arith, full.0, full.1, all)))
+    c.in-Err.ensures.alters))
 
 -- what is left of a run rises
 rest_rises : (at : ℕ) (run : List Entry) → IsRising run → IsRising (drop at run)
@@ -42,17 +37,14 @@ insert_from-requires g c =
       (
         search rules,
         (
-          record { is_open = i.looked.still; fits = i.fits },
+          i.shape.pages,
           (
-            i.shape.pages,
+            i.index,
             (
-              i.index,
+              i.some,
               (
-                i.some,
-                (
-                  rest_rises c.loop-at.at c.args.run.now c.requires.rising,
-                  c.loop-at-test.true,
-                ),
+                rest_rises c.loop-at.at c.args.run.now c.requires.rising,
+                c.loop-at-test.true,
               ),
             ),
           ),
@@ -67,14 +59,13 @@ loop-at-preserved g c =
     let at = c.loop-at.at in
     let end = c.in-Ok-insert_from.end in
     let run : List Entry = c.args.run.now in
-    let s0 = stand c.args.pages.now c.args.work.now in
-    let s1 = stand c.loop-at.pages c.loop-at.work in
-    let s2 = stand c.insert_from.new.pages c.insert_from.new.work in
+    let s0 = c.args.edit.now.next in
+    let s1 = c.loop-at.edit.next in
+    let s2 = c.insert_from.new.edit.next in
     record {
       within = e.within;
       some = e.some;
-      looked = looked_more g.D.Disk.honest g.D.Disk.failures g.D.Disk.state end c.args.pages.now c.loop-at.pages c.insert_from.new.pages i.looked e.edits.looks;
-      fits = e.edits.fits;
+      edits = edits_next g.D.Disk tt (Ok tt) ⊥ ⊥ c.args.edit.now c.loop-at.edit c.insert_from.new.edit i.edits (went g.D.Disk _ _ _ _ _ _ e.edits);
       shape = shape_then c.args.self.now c.loop-at.self c.insert_from.new.index s0 s1 s2 e.edits.looks.was_honest (λ h. h) i.shape e.shape;
       index = λ h. (e.entries h).0;
       entries = λ h.
@@ -93,16 +84,13 @@ returns-in-Err-insert_from-clause-edits g c =
     let e = c.in-Err-insert_from.ensures in
     let at = c.loop-at.at in
     let run : List Entry = c.args.run.now in
-    let first = entries_of g.row.W (stand c.args.pages.now c.args.work.now) c.args.self.now.pages in
-    record {
-      looks = search rules;
-      answer = edit_more c.in-Err-insert_from.fault c.insert_from.new.pages.closed
-          (λ full honest.
-          let back = e.edits.looks.was_honest honest in
-          let few = full honest in
-          let now = ap (λ (x : List Entry). length (inserted_all (drop at run) x)) (i.entries back) in
-          let whole = ap length (sym (inserted_all-append (take at run) (drop at run) first)
-          ∙ ap (λ (x : List Entry). inserted_all x first) (take-append-drop at run)) in
-          omega (arith, few, now, whole, i.shape.balance)) e.edits.answer;
-      fits = tt;
-    }
+    let first = entries_of g.row.W c.args.edit.now.next c.args.self.now.pages in
+    edits_next g.D.Disk tt (Err c.in-Err-insert_from.fault) ⊥ _ _ _ _ i.edits (edits_failed g.D.Disk c.in-Err-insert_from.fault _ _ _
+    (edits_fuller g.D.Disk (Err c.in-Err-insert_from.fault) _ _ _ _
+    (λ full honest.
+    let back = e.edits.looks.was_honest honest in
+    let few = full honest in
+    let now = ap (λ (x : List Entry). length (inserted_all (drop at run) x)) (i.entries back) in
+    let whole = ap length (sym (inserted_all-append (take at run) (drop at run) first)
+    ∙ ap (λ (x : List Entry). inserted_all x first) (take-append-drop at run)) in
+    omega (arith, few, now, whole, i.shape.balance)) e.edits))

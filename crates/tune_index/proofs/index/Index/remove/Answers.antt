@@ -1,5 +1,4 @@
 use Rattle.std.proofs.Common.{◌≡◌, ◌+◌, ◌<◌, List, length, arith, sym, ap, ◌∙◌, subst}
-use Rattle.tune_pages.specs.Work.{stand}
 use Rattle.index_keys.specs.Entries.{Entry, rank, IsRising}
 use Rattle.tune_index.specs.Indexes.{IsIndex}
 use Rattle.tune_index.specs.Inside.LeafLists.{leaves_of}
@@ -12,8 +11,8 @@ use Rattle.tune_index.proofs.index.Index.remove.Goals as goal
 
 pub returns-in-Ok-clause-entries : goal.returns-in-Ok-clause-entries
 returns-in-Ok-clause-entries g c = λ honest.
-    let s0 = stand c.args.pages.now c.args.work.now in
-    let s2 = stand c.remove_at.new.pages c.remove_at.new.work in
+    let s0 = c.args.edit.now.next in
+    let s2 = c.remove_at.new.edit.next in
     let was = c.args.self.now in
     let ix : IsIndex g.row.W s0 was = c.requires.index (c.in-Ok.ensures.edits.looks.was_honest honest) in
     let place = c.leaf_for-place.result in

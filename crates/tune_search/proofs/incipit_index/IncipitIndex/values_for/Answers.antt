@@ -1,7 +1,6 @@
 use Rattle.std.proofs.Common.{◌≡◌, ℕ, List, Contains, true, sym, ap, ◌∙◌, subst, arith}
 use Rattle.std.proofs.lemmas.Result.{IfOk-weaker}
 use Rattle.tune_index.specs.ListedLeaves.{index_with}
-use Rattle.tune_pages.specs.Work.{stand}
 use Rattle.index_keys.specs.Entries.{Entry, values_within}
 use Rattle.index_keys.specs.Cuts.{cut_number}
 use Rattle.index_keys.specs.Holdings.{HoldsEntries}
@@ -20,18 +19,15 @@ use Rattle.tune_search.proofs.incipit_index.IncipitIndex.values_for.Goals as goa
 
 pub candidates-requires : goal.candidates-requires
 candidates-requires g c =
-    let s = stand c.args.pages.now c.args.work.now in
+    let s = c.args.edit.now.next in
     let shape = c.in-Twelve.index in
     let is = λ (i : IncipitIndex). HoldsSomeIndex (incipit_bytes (notes_of_index i)) s (shape_of i) in (
       omega arith,
       (
         omega arith,
         (
-          c.requires.work,
-          (
-            (λ h. let some = subst is c.in-Twelve.is (c.requires.holds h) in among_pages 48 s shape some.0 some.1 some.2 some.3 some.4),
-            (λ h. let some = subst is c.in-Twelve.is (c.requires.holds h) in among_index 48 s shape some.0 some.1 some.2 some.3 some.4),
-          ),
+          (λ h. let some = subst is c.in-Twelve.is (c.requires.holds h) in among_pages 48 s shape some.0 some.1 some.2 some.3 some.4),
+          (λ h. let some = subst is c.in-Twelve.is (c.requires.holds h) in among_index 48 s shape some.0 some.1 some.2 some.3 some.4),
         ),
       ),
     )
@@ -40,7 +36,7 @@ candidates-requires g c =
 pub returns-in-Twelve-clause-finds : goal.returns-in-Twelve-clause-finds
 returns-in-Twelve-clause-finds g c = IfOk-weaker c.candidates.result _ _
     (λ values are h before after parts entries among tunes held tune there found.
-    let s = stand c.args.pages.now c.args.work.now in
+    let s = c.args.edit.now.next in
     let shape : Shape = c.in-Twelve.index in
     let front = c.args.front.now in
     let all : List Entry = entries_of 48 s shape.pages in

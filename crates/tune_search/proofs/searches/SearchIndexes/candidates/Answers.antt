@@ -4,7 +4,6 @@ use Rattle.index_keys.specs.Holdings.{HoldsEntries}
 use Rattle.tune_index.specs.ListedLeaves.{index_with}
 use Rattle.tune_incipit.specs.ScaleAndIncipitKeys.{incipit_keys}
 use Rattle.tune_index.specs.Indexes.{Shape}
-use Rattle.tune_pages.specs.Work.{stand}
 use Rattle.tune_queries.specs.Queries.{finds}
 use Rattle.tune_queries.specs.declared.sought.Sought.{Sought}
 use Rattle.tune_search.specs.IndexParts.{HoldsIndexAmong, HoldsSomeIndex}
@@ -14,27 +13,31 @@ use Rattle.tune_search.proofs.AmongLemmas.{titles_among, rhythms_among, scales_a
 use Rattle.tune_search.proofs.AmongLemmas.{behind_titles, before_rhythms, behind_rhythms, before_scales, behind_scales, before_incipits}
 use Rattle.tune_search.proofs.searches.SearchIndexes.candidates.Goals as goal
 
-pub values_for-requires-clause-holds : goal.values_for-requires-clause-holds
-values_for-requires-clause-holds g c = λ h. subst (HoldsSomeIndex key_bytes (stand c.args.pages.now c.args.work.now))
-    (sym (ap (λ (shape : SearchShape). shape.titles) c.self.view_is))
-    (some_titles (stand c.args.pages.now c.args.work.now) c.args.self.now (c.requires.holds h))
+pub values_for-requires : goal.values_for-requires
+values_for-requires g c = record {
+  holds = λ h. subst (HoldsSomeIndex key_bytes c.args.edit.now.next)
+      (sym (ap (λ (shape : SearchShape). shape.titles) c.self.view_is))
+      (some_titles c.args.edit.now.next c.args.self.now (c.requires.holds h));
+}
 
 pub returns-in-Title-clause-finds : goal.returns-in-Title-clause-finds
 returns-in-Title-clause-finds g c = IfOk-weaker c.values_for.result _ _ (λ values all h before after parts tunes texts tune there found.
-    let s = stand c.args.pages.now c.args.work.now in
+    let s = c.args.edit.now.next in
     let among = subst (λ (shape : Shape). HoldsIndexAmong key_bytes s (index_with shape texts.titles.entries) before (behind_titles parts after) parts.titles)
     (sym (ap (λ (shape : SearchShape). shape.titles) c.self.view_is)) (titles_among s c.args.self.now before after parts tunes texts) in
     all h before (behind_titles parts after) parts.titles texts.titles.entries among tunes texts.titles.exact tune there
     (subst (λ (x : Sought). finds c.args.self.now.notes x tune.1 ≡ true) c.in-Title.is found)) c.values_for.ensures.finds
 
-pub values_for-requires-in-Rhythm-clause-holds : goal.values_for-requires-in-Rhythm-clause-holds
-values_for-requires-in-Rhythm-clause-holds g c = λ h. subst (HoldsSomeIndex key_bytes (stand c.args.pages.now c.args.work.now))
-    (sym (ap (λ (shape : SearchShape). shape.rhythms) c.self.view_is))
-    (some_rhythms (stand c.args.pages.now c.args.work.now) c.args.self.now (c.requires.holds h))
+pub values_for-requires-in-Rhythm : goal.values_for-requires-in-Rhythm
+values_for-requires-in-Rhythm g c = record {
+  holds = λ h. subst (HoldsSomeIndex key_bytes c.args.edit.now.next)
+      (sym (ap (λ (shape : SearchShape). shape.rhythms) c.self.view_is))
+      (some_rhythms c.args.edit.now.next c.args.self.now (c.requires.holds h));
+}
 
 pub returns-in-Rhythm-clause-finds : goal.returns-in-Rhythm-clause-finds
 returns-in-Rhythm-clause-finds g c = IfOk-weaker c.values_for-in-Rhythm.result _ _ (λ values all h before after parts tunes texts tune there found.
-    let s = stand c.args.pages.now c.args.work.now in
+    let s = c.args.edit.now.next in
     let among = subst
     (λ (shape : Shape). HoldsIndexAmong key_bytes s (index_with shape texts.rhythms.entries) (before_rhythms before parts) (behind_rhythms parts after)
     parts.rhythms)
@@ -42,14 +45,16 @@ returns-in-Rhythm-clause-finds g c = IfOk-weaker c.values_for-in-Rhythm.result _
     all h (before_rhythms before parts) (behind_rhythms parts after) parts.rhythms texts.rhythms.entries among tunes texts.rhythms.exact tune there
     (subst (λ (x : Sought). finds c.args.self.now.notes x tune.1 ≡ true) c.in-Rhythm.is found)) c.values_for-in-Rhythm.ensures.finds
 
-pub values_for-requires-in-Key-clause-holds : goal.values_for-requires-in-Key-clause-holds
-values_for-requires-in-Key-clause-holds g c = λ h. subst (HoldsSomeIndex key_bytes (stand c.args.pages.now c.args.work.now))
-    (sym (ap (λ (shape : SearchShape). shape.scales) c.self.view_is))
-    (some_scales (stand c.args.pages.now c.args.work.now) c.args.self.now (c.requires.holds h))
+pub values_for-requires-in-Key : goal.values_for-requires-in-Key
+values_for-requires-in-Key g c = record {
+  holds = λ h. subst (HoldsSomeIndex key_bytes c.args.edit.now.next)
+      (sym (ap (λ (shape : SearchShape). shape.scales) c.self.view_is))
+      (some_scales c.args.edit.now.next c.args.self.now (c.requires.holds h));
+}
 
 pub returns-in-Key-clause-finds : goal.returns-in-Key-clause-finds
 returns-in-Key-clause-finds g c = IfOk-weaker c.values_for-in-Key.result _ _ (λ values all h before after parts tunes texts tune there found.
-    let s = stand c.args.pages.now c.args.work.now in
+    let s = c.args.edit.now.next in
     let among = subst
     (λ (shape : Shape). HoldsIndexAmong key_bytes s (index_with shape texts.scales.entries) (before_scales before parts) (behind_scales parts after)
     parts.scales)
@@ -57,15 +62,17 @@ returns-in-Key-clause-finds g c = IfOk-weaker c.values_for-in-Key.result _ _ (λ
     all h (before_scales before parts) (behind_scales parts after) parts.scales texts.scales.entries among tunes texts.scales.exact tune there
     (subst (λ (x : Sought). finds c.args.self.now.notes x tune.1 ≡ true) c.in-Key.is found)) c.values_for-in-Key.ensures.finds
 
-pub values_for-requires-in-Notes-clause-holds : goal.values_for-requires-in-Notes-clause-holds
-values_for-requires-in-Notes-clause-holds g c = λ h.
-    let s = stand c.args.pages.now c.args.work.now in
-    subst (λ (shape : SearchShape). HoldsSomeIndex (incipit_bytes shape.notes) s shape.incipits) (sym c.self.view_is)
-    (some_incipits s c.args.self.now (c.requires.holds h))
+pub values_for-requires-in-Notes : goal.values_for-requires-in-Notes
+values_for-requires-in-Notes g c = record {
+  holds = λ h.
+      let s = c.args.edit.now.next in
+      subst (λ (shape : SearchShape). HoldsSomeIndex (incipit_bytes shape.notes) s shape.incipits) (sym c.self.view_is)
+      (some_incipits s c.args.self.now (c.requires.holds h));
+}
 
 pub returns-in-Notes-clause-finds : goal.returns-in-Notes-clause-finds
 returns-in-Notes-clause-finds g c = IfOk-weaker c.values_for-in-Notes.result _ _ (λ values all h before after parts tunes texts tune there found.
-    let s = stand c.args.pages.now c.args.work.now in
+    let s = c.args.edit.now.next in
     let entries = texts.incipits.entries in
     let among = subst
     (λ (shape : SearchShape). HoldsIndexAmong (incipit_bytes shape.notes) s (index_with shape.incipits entries) (before_incipits before parts) after

@@ -1,6 +1,5 @@
-use Rattle.std.proofs.Common.{rules, ◌≡◌, ap, sym, subst, ◌∙◌}
-use Rattle.tune_pages.specs.Work.{stand}
-use Rattle.tune_index.proofs.Answering.{edit_more}
+use Rattle.std.proofs.Common.{Err, ◌≡◌, ap, sym, subst, ◌∙◌}
+use Rattle.tune_pages.proofs.Edits.{edits_failed, edits_fuller}
 use Rattle.tune_search.specs.IncipitForms.{notes_of_index, shape_of}
 use Rattle.tune_search.specs.IncipitRuns.{HoldsIncipits}
 use Rattle.tune_search.specs.Searches.{HoldsTexts, SearchShape}
@@ -10,7 +9,7 @@ use Rattle.tune_search.proofs.searches.SearchIndexes.lengthen_incipits.Goals as 
 
 pub lengthen-requires-clause-index : goal.lengthen-requires-clause-index
 lengthen-requires-clause-index g c = λ h0.
-    let s0 = stand c.args.pages.now c.args.work.now in
+    let s0 = c.args.edit.now.next in
     let titles = c.self.inside.titles in
     let rhythms = c.self.inside.rhythms in
     let scales = c.self.inside.scales in
@@ -22,21 +21,17 @@ lengthen-requires-clause-index g c = λ h0.
 
 pub returns-in-Err-clause-edits : goal.returns-in-Err-clause-edits
 returns-in-Err-clause-edits g c =
-    let s0 = stand c.args.pages.now c.args.work.now in
+    let s0 = c.args.edit.now.next in
     let was = c.in-Eight.index in
-    record {
-      looks = search rules;
-      answer = edit_more c.in-Err.fault c.lengthen.new.pages.closed
-          (λ full h1 before after parts tunes are h.
-          full_for_tunes s0 s0 c.self.inside.titles c.self.inside.rhythms c.self.inside.scales was was c.args.run.now (full h1) tunes are)
-          c.in-Err.ensures.edits.answer;
-      fits = tt;
-    }
+    edits_failed g.D.Disk c.in-Err.fault _ _ _ (edits_fuller g.D.Disk (Err c.in-Err.fault) _ _ _ _
+    (λ full h1 before after parts tunes are h.
+    full_for_tunes s0 s0 c.self.inside.titles c.self.inside.rhythms c.self.inside.scales was was c.args.run.now (full h1) tunes are)
+    c.in-Err.ensures.edits)
 
 pub returns-clause-holds : goal.returns-clause-holds
 returns-clause-holds g c = λ h1 before after parts tunes are h.
-    let s0 = stand c.args.pages.now c.args.work.now in
-    let s1 = stand c.lengthen.new.pages c.lengthen.new.work in
+    let s0 = c.args.edit.now.next in
+    let s1 = c.lengthen.new.edit.next in
     let titles = c.self.inside.titles in
     let rhythms = c.self.inside.rhythms in
     let scales = c.self.inside.scales in
