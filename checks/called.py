@@ -75,7 +75,7 @@ WAYS = {
         'The way of a command': {1: [MAIN]},
         'The way of a question of the front end': {1: [DESK]},
         'The way of a music line': {1: [STEPS]},
-        'The way of a work': {1: [CHANGE, READ]},
+        'The way of an edit': {1: [CHANGE, READ]},
         'The way of an insert in an index': {1: [INSERT, STORE, LOAD]},
         'The way of a search in an index': {1: [FIND]},
         'The way of a commit': {1: [COMMIT, OPEN]},
