@@ -1,5 +1,5 @@
 -- Calls of a change in progress, one after another.
-use Rattle.std.proofs.Common.{◌≡◌, ◌≢◌, Bool, true, false, not, Result, Ok, Err, OnOk, refl, sym, ◌∙◌, ap, subst}
+use Rattle.std.proofs.Common.{◌≡◌, ◌≢◌, Bool, true, not, Result, Ok, Err, OnOk, refl, sym, ◌∙◌, ap, subst}
 use Rattle.tune_disk.specs.declared.disk.Disk as disk
 use Rattle.tune_pages.specs.Edited.{Edited}
 use Rattle.tune_pages.specs.Editing.{IsEditFault, AnswersEdit, AltersEdit, Consults, Edits}

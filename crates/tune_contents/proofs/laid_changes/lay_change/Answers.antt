@@ -1,4 +1,4 @@
-use Rattle.std.proofs.Common.{rules, ◌≡◌, List, ap, refl, ◌∙◌, subst, sym, arith}
+use Rattle.std.proofs.Common.{◌≡◌, List, ap, refl, ◌∙◌, subst, sym, arith}
 use Rattle.std.proofs.lemmas.Result.{err_from_is_err_and}
 use Rattle.tune_search.specs.Searches.{SearchShape}
 use Rattle.tune_sets.specs.declared.set_lists.TuneSet.{TuneSet}
@@ -8,8 +8,6 @@ use Rattle.tune_contents.specs.Next.{rows_after}
 use Rattle.tune_contents.specs.declared.next.Next.{Next}
 use Rattle.tune_contents.proofs.ChangePages.{change_count}
 use Rattle.tune_contents.proofs.ContentsLemmas.{SaysWhere, indexed_of, keeps_in, sets_there, some_indexed, state_laid}
-use Rattle.tune_contents.proofs.LookLemmas.{look_fails}
-use Rattle.tune_pages.proofs.Looking.{look_next}
 use Rattle.tune_contents.proofs.laid_changes.lay_change.Goals as goal
 
 pub lay_indexed-requires-clause-holds : goal.lay_indexed-requires-clause-holds

@@ -2,7 +2,6 @@ use Rattle.std.proofs.Common.{Ok, ◌≡◌, ℕ, ◌<◌, List, arith, length, 
 use Rattle.std.proofs.lemmas.List.{get_or_default}
 use Rattle.tune_pages.specs.Kept.{HonestAt}
 use Rattle.tune_pages.specs.Stand.{Stand}
-use Rattle.tune_pages.specs.Work.{stand}
 use Rattle.tune_pages.proofs.Edits.{consulted, consults_next}
 use Rattle.tune_search.specs.IncipitRuns.{GathersIncipits}
 use Rattle.tune_format.specs.declared.rows.Row.{Row}

@@ -1,11 +1,9 @@
-use Rattle.std.proofs.Common.{rules, ℕ, Ok, Err, refl, subst, arith}
+use Rattle.std.proofs.Common.{ℕ, Ok, Err, refl, subst, arith}
 use Rattle.std.proofs.lemmas.Result.{err_from_is_err_and}
 use Rattle.tune_pages.specs.Stand.{Stand}
-use Rattle.tune_pages.proofs.Looking.{look_next}
 use Rattle.tune_store.specs.declared.layout.Layout.TheVariants.{Two}
 use Rattle.tune_contents.specs.Holds.{Memory}
 use Rattle.tune_contents.specs.Inside.Upgrading.{LengthensTexts}
-use Rattle.tune_contents.proofs.LookLemmas.{look_fails}
 use Rattle.tune_contents.proofs.UpgradeLemmas.{IsUpgraded, some_incipits, some_tunes_within, upgrade_takes, upgraded}
 use Rattle.tune_contents.proofs.upgrading.upgrade.Goals as goal
 

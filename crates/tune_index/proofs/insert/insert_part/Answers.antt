@@ -1,4 +1,4 @@
-use Rattle.std.proofs.Common.{false, ◌≡◌, ℕ, ◌+◌, ◌++◌, List, length, take, drop, rules, arith, subst, sym, ap, ◌∙◌, Ok, Err}
+use Rattle.std.proofs.Common.{ℕ, ◌+◌, ◌++◌, List, length, take, drop, arith, subst, sym, ap, ◌∙◌, Ok, Err}
 use Rattle.tune_pages.specs.Faults.{free_pages}
 use Rattle.tune_pages.specs.Frame.{InUse, image_at}
 use Rattle.tune_pages.specs.Stand.{Stand}

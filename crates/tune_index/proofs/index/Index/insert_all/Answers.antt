@@ -2,7 +2,7 @@ use Rattle.std.proofs.Common.{◌≡◌, ℕ, ◌+◌, ◌-◌, ◌++◌, List, 
 use Rattle.std.proofs.Math.Seq.{take-add}
 use Rattle.std.proofs.lemmas.List.{take-append-drop}
 use Rattle.tune_pages.specs.Stand.{Stand}
-use Rattle.tune_pages.proofs.Edits.{alters_edits, alters_failed, alters_fuller, edits_failed, edits_fuller, edits_next, edits_none, went}
+use Rattle.tune_pages.proofs.Edits.{alters_edits, alters_failed, alters_fuller, edits_failed, edits_fuller, edits_next, went}
 use Rattle.index_keys.specs.Entries.{Entry, IsRising, inserted_all}
 use Rattle.index_keys.proofs.RisingEntries.{rises_back}
 use Rattle.tune_index.specs.Indexes.{entries_of}
