@@ -237,7 +237,7 @@ impl<D: Disk> Edit<D> {
     ///
     /// # Errors
     ///
-    /// `FileFull` exactly where all pages up to the limit are in use; `OutOfMemory`; `Closed`.
+    /// `FileFull` only where all pages up to the limit are in use; `OutOfMemory`; `Closed`.
     pub fn allocate(&mut self) -> Result<u32, Fault>
         ensures least { IfOk result (λ page. IsLeastFree self.old.next.used page) }
         ensures within { IfOk result (λ page. (0 < page) × (page < most_pages)
@@ -317,7 +317,7 @@ impl<D: Disk> Edit<D> {
     ///
     /// # Errors
     ///
-    /// `FileFull` exactly where fewer pages are free than the chain wants; `OutOfMemory`; `Closed`.
+    /// `FileFull` only where fewer pages are free than the chain wants; `OutOfMemory`; `Closed`.
     pub fn put_chain(&mut self, bytes: &[u8]) -> Result<u32, Fault>
         ensures chain { IfOk result (λ first. (trail : List ℕ)
             × PutsChain self.old.next self.new.next first trail bytes.now) }
